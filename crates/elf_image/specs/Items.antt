@@ -2,7 +2,7 @@
 use Rattle.std.specs.Prelude.{ℕ, zero, suc, ◌+◌, ◌-◌, ◌*◌, ◌/◌, ◌^◌, ◌==◌, ◌&&◌, nat_le, if◌then◌else◌, Bool, List, [], ◌∷◌, length, get_or, map, Option, None, Some, unwrap_or}
 use Rattle.std.specs.Ordering.{nat_cmp}
 use Rattle.elf_layout.specs.Lent.{KeysAscend}
-use Rattle.elf_model.specs.ImageItems.{ImageItems, bytes_for}
+use Rattle.elf_model.specs.ImageItems.{ItemValues, bytes_for}
 use Rattle.elf_model.specs.Placing.{address_in}
 use Rattle.elf_image.specs.declared.image_items.CopyBytes.{CopyBytes}
 use Rattle.elf_image.specs.declared.image_items.CopyBytes.TheVariants.{Digits, Raw}
@@ -79,7 +79,7 @@ abbrev pub number_of : GivenItems → ItemKind → (key : ℕ) → Option ℕ
 number_of given kind key = address_in (of_kind (kind_number kind) given.numbers) key
 
 -- WHAT THEY SAY, as all items of a process or as some
-unfoldable pub said_by : GivenItems → (partial : Bool) → ImageItems
+unfoldable pub said_by : GivenItems → (partial : Bool) → ItemValues
 said_by given partial = record {
   base = unwrap_or (number_of given kind.Base 0) 0;
   symbols = of_kind (kind_number kind.Symbol) given.numbers;

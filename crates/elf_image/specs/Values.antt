@@ -1,7 +1,7 @@
 -- What an image's items say, and the bytes that are stored.
 use Rattle.std.specs.Prelude.{ℕ, ◌≡◌, List, [], ◌++◌, Result, Ok, Err}
 use Rattle.elf_model.specs.Bytes.{little}
-use Rattle.elf_model.specs.ImageItems.{FromPointer, ImageItems, InBlock, ModuleId, ThreadValue}
+use Rattle.elf_model.specs.ImageItems.{FromPointer, ItemValues, InBlock, ModuleId, ThreadValue}
 use Rattle.elf_model.specs.declared.causes.Cause.{Cause}
 use Rattle.elf_model.specs.declared.dynamic_types.DynamicType.{DynamicType}
 use Rattle.elf_model.specs.declared.dynamic_types.DynamicType.TheVariants as type
@@ -16,7 +16,7 @@ use Rattle.elf_image.specs.declared.image_items.ItemKind.{ItemKind}
 use Rattle.elf_image.specs.declared.image_items.ItemKind.TheVariants as kind
 
 -- the items of an image
-abbrev pub items_of : ImageFile → ImageItems
+abbrev pub items_of : ImageFile → ItemValues
 items_of image = said_by (given image.items.now.numbers.now image.items.now.copies.now) image.leaves
 
 -- the load address that an image has is that of its items

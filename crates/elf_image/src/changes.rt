@@ -3,7 +3,7 @@ ghost use Rattle.std.specs.Prelude.{◌≡◌, ◌+◌, ◌*◌, ◌^◌, ◌<�
 ghost use Rattle.elf_source.specs.Prelude.{KeepsSource};
 ghost use Rattle.elf_image.specs.Within.{RelocationsWithin};
 
-use crate::dynamic_rows::{ImageRows, image_rows, no_rows};
+use crate::image_rows_of::{ImageRows, image_rows, no_rows};
 use crate::image_items::{CopyBytes, ImageItems};
 use crate::place::{Place, holder};
 use crate::ranges::{EntryRanges, entry_ranges};

@@ -5,7 +5,7 @@
 #![tactic(auto)]
 
 mod changes;
-mod dynamic_rows;
+mod image_rows_of;
 mod dynamic_types;
 mod entries;
 mod entry;

@@ -2,7 +2,7 @@
 ghost use Rattle.std.specs.Prelude.{◌≡◌, ◌≤◌, ℕ, IfOk};
 ghost use Rattle.elf_image.specs.Within.{RangesWithin, TableWithin, TablesWithin};
 
-use crate::dynamic_rows::ImageRows;
+use crate::image_rows_of::ImageRows;
 use crate::tables::{ImageTables, MappedTable};
 use elf_record::Cause;
 use elf_record::sizes::RELOCATION_BYTES;

@@ -2,7 +2,7 @@
 ghost use Rattle.std.specs.Prelude.{◌≡◌, ◌<◌, ◌/◌, ◌^◌, ℕ, List};
 ghost use Rattle.elf_model.specs.Bytes.{little};
 ghost use Rattle.elf_model.specs.ImageItems.{bytes_for, is_looked_up};
-ghost use Rattle.elf_model.specs.ImageValues.{copied_bytes, descriptor_bytes, low_bytes, placed, stored_bytes, word_if_bound, word_of};
+ghost use Rattle.elf_model.specs.ImageValues.{copied_bytes, descriptor_bytes, low_four_bytes, placed_value, stored_bytes, word_if_bound, word_of};
 ghost use Rattle.elf_model.specs.Placing.{address_in};
 ghost use Rattle.elf_model.specs.Records.{r_addend, st_size, twos_complement};
 ghost use Rattle.elf_record.specs.Rela.{IsRela};
@@ -42,14 +42,14 @@ pub(crate) fn stored_bytes<'a>(
         DynamicType::Absolute => word_of(bound_value(image, index, symbol), addend),
         DynamicType::Address => word_of(bound_value(image, index, symbol), 0),
         DynamicType::Call => word_of(called_value(image, index, symbol), 0),
-        DynamicType::Low => low_bytes(
+        DynamicType::Low => low_four_bytes(
             R_X86_64_32,
             bound_value(image, index, symbol),
             entry.r_addend,
             place,
         ),
         DynamicType::RelativeLow => {
-            low_bytes(
+            low_four_bytes(
                 R_X86_64_PC32,
                 bound_value(image, index, symbol),
                 entry.r_addend,
@@ -107,14 +107,14 @@ fn word<'a>(number: u64) -> StoredBytes<'a>
 }
 
 /// Returns the bytes of a type of which elf_reloc computes the value, by its number.
-fn low_bytes<'a>(
+fn low_four_bytes<'a>(
     number: u32,
     address: Result<u64, Cause>,
     addend: i64,
     place: u64,
 ) -> Result<StoredBytes<'a>, Cause>
     ensures { (bits : ℕ) → addend ≡ twos_complement bits →
-        bytes_or_cause result ≡ low_bytes number address bits place }
+        bytes_or_cause result ≡ low_four_bytes number address bits place }
 {
     let address = address?;
     match value(number, address, address, addend, place) {
@@ -127,7 +127,7 @@ fn low_bytes<'a>(
 /// Returns the answer of the resolver at an address.
 #[tactic(auto, unfolding(crate::specs::Items::said_by))]
 fn resolved_value(image: &ImageFile<'_, '_>, address: u64) -> Result<u64, Cause>
-    ensures { result ≡ placed (address_in (items_of image.now).resolved address) }
+    ensures { result ≡ placed_value (address_in (items_of image.now).resolved address) }
 {
     match image.items.number(ItemKind::Resolver, address) {
         Some(answer) => Ok(answer),

@@ -2,7 +2,7 @@
 ghost use Rattle.std.specs.Prelude.{◌≡◌, ◌<◌, ◌≤◌, IfOk, IfSome};
 ghost use Rattle.elf_image.specs.Within.{TableWithin, TablesWithin};
 
-use crate::dynamic_rows::{ImageRows, TableRows};
+use crate::image_rows_of::{ImageRows, TableRows};
 use elf_hash::DynEntry;
 use elf_record::Cause;
 use elf_record::sizes::{RELOCATION_BYTES, RELR_BYTES, SYMBOL_BYTES};

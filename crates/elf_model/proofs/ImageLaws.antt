@@ -11,7 +11,7 @@ use Rattle.elf_model.specs.Checks.{Check, refuse}
 use Rattle.elf_model.specs.Image.{ImageChange, ImageSource, Keeps, Lacks, Refuses, RelativeAddress, SegmentWrite, Stores, and_writes, change_by, change_of_type, direct_change, direct_changes, dynamic_image_checks, entry_change, entry_ranges, has_table, holder_of, holds_in_memory, image_changes, is_lack, is_resolved, kind_checks, linkage_table, meets_rows, place_checks, image, image_by_segments, image_checks, range_changes, read_addresses, rela_table, relative_changes, relative_table, relocated_segment, relocation_changes, requested_checks, resolved_changes, row_value, segment_load_checks, segments_load_checks, stored_at, stored_in, table_addresses, unrelocated, word_before, writes_in, writes_of}
 use Rattle.elf_model.specs.ImageValues.{changed_size, dynamic_symbol_checks, dynamic_type, entry_symbol, stored_bytes}
 use Rattle.elf_model.specs.RelativeRelocations.{LAST_ADDRESS}
-use Rattle.elf_model.specs.ImageItems.{ImageItems}
+use Rattle.elf_model.specs.ImageItems.{ItemValues}
 use Rattle.elf_model.specs.ImageLaws.{ImageIsWhole, IsElsewhere, OthersAreKept, TablesAreKept, UnlinkedIsKept, UnwrittenIsKept, WindowsAreParts, WritesAreInside}
 use Rattle.elf_model.specs.TraitNumbers.{PF_W}
 use Rattle.elf_model.specs.Traits.{has_text_relocations, permits}
@@ -216,7 +216,7 @@ all_map : {A : Type 0} (P Q : A → Type 0) (xs : List A) → ((x : A) → P x �
 all_map P Q [] each all = All-nil Q
 all_map P Q (x ∷ xs) each all = All-cons Q x xs (each x (All-head P x xs all)) (all_map P Q xs each (All-tail P x xs all))
 
-module _ (whole file : List ℕ) (items : ImageItems) (partial : Bool) (writes : List SegmentWrite) where
+module _ (whole file : List ℕ) (items : ItemValues) (partial : Bool) (writes : List SegmentWrite) where
   of_index : (P : SegmentWrite → Type 0) (index : Option ℕ) → dynamic_segment_index file ≡ index
       → ((at : ℕ) (write : SegmentWrite) → IsAllowed file at write → P write)
       → writes_of partial (image_changes whole file items) ≡ Ok writes → All P writes
@@ -279,12 +279,12 @@ none_stored file segment (write ∷ writes) all closed =
     ]
 
 -- an image and its writes
-record HasWrites (whole file : List ℕ) (segment : ℕ) (items : ImageItems) (bytes : List ℕ) : Type 0 where
+record HasWrites (whole file : List ℕ) (segment : ℕ) (items : ItemValues) (bytes : List ℕ) : Type 0 where
   writes : List SegmentWrite
   are : writes_of items.partial (image_changes whole file items) ≡ Ok writes
   bytes_are : bytes ≡ relocated_segment whole file segment writes
 
-module _ (whole file : List ℕ) (headers segment most : ℕ) (items : ImageItems) (bytes : List ℕ) where
+module _ (whole file : List ℕ) (headers segment most : ℕ) (items : ItemValues) (bytes : List ℕ) where
   after_checks : (refusal : Option Refusal) (behind : Result (List ℕ) Refusal)
       → ◌≡◌ {A = Result (List ℕ) Refusal} (elim refusal [ Some refusal ↦ Err refusal | None ↦ behind ]) (Ok bytes)
       → (refusal ≡ None) × (behind ≡ Ok bytes)

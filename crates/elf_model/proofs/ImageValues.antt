@@ -1,8 +1,8 @@
 -- What an entry stores fits its place.
 use Rattle.std.proofs.Common.{◌≡◌, ℕ, ◌+◌, ◌%◌, ◌^◌, ◌≤◌, ◌==◌, nat_lt, inl, inr, Bool, true, false, List, [], ◌∷◌, ◌++◌, length, length-append, Option, None, Some, Result, Ok, Err, refl, sym, ap, ◌∙◌, arith}
 use Rattle.std.proofs.lemmas.Bool.{cases_Bool, ltb-false}
-use Rattle.elf_model.specs.ImageItems.{ImageItems, FromPointer, InBlock, ModuleId, bound_value, bytes_for, called_value, is_looked_up, thread_value}
-use Rattle.elf_model.specs.ImageValues.{changed_size, copied_bytes, descriptor_bytes, low_bytes, place_of_entry, placed, stored_bytes, word_if_bound, word_of}
+use Rattle.elf_model.specs.ImageItems.{ItemValues, FromPointer, InBlock, ModuleId, bound_value, bytes_for, called_value, is_looked_up, thread_value}
+use Rattle.elf_model.specs.ImageValues.{changed_size, copied_bytes, descriptor_bytes, low_four_bytes, place_of_entry, placed_value, stored_bytes, word_if_bound, word_of}
 use Rattle.elf_model.specs.Placing.{address_in}
 use Rattle.elf_model.specs.Prelude.{FormulaTerms, kind_of, little, patch_of, r_addend, r_sym, st_size, twos_complement, value}
 use Rattle.elf_model.specs.Values.{kind_in, kinds}
@@ -33,7 +33,7 @@ low_value number type s addend place bytes some k four e =
     let long = length-patch_of type _ bytes patch in omega (arith, long, four)
 
 low_fits : (number : ℕ) (type : RelocationType) (found : Result ℕ Cause) (addend place : ℕ) (bytes : List ℕ) → (number == 0) ≡ false → kind_of number ≡ Some type → type.width ≡ 4
-    → low_bytes number found addend place ≡ Ok bytes → length bytes ≤ 4
+    → low_four_bytes number found addend place ≡ Ok bytes → length bytes ≤ 4
 low_fits number type (Err cause) addend place bytes some k four e = absurd (cc)
 low_fits number type (Ok s) addend place bytes some k four e =
     low_value number type s addend place bytes some k four e
@@ -58,7 +58,7 @@ descriptor_fits (Some first) (Ok (Some n)) addend bytes e =
     long : (word other : List ℕ) → length word ≡ 8 → length other ≡ 8 → word ++ other ≡ bytes → length bytes ≤ 16
     long word other eight also same = let both = length-append word other in rw (← same) (omega (arith, both, eight, also))
 
-pub stored_fits : (type : DynamicType) (file : List ℕ) (items : ImageItems) (rela symbol : ℕ) (bytes : List ℕ)
+pub stored_fits : (type : DynamicType) (file : List ℕ) (items : ItemValues) (rela symbol : ℕ) (bytes : List ℕ)
     → stored_bytes type file items rela symbol ≡ Ok bytes → length bytes ≤ changed_size type file symbol
 unfolding stored_bytes changed_size kind_of kind_in kinds
 stored_fits type.Relative file items rela symbol bytes e = word_fits (Ok items.base) _ bytes e
@@ -67,7 +67,7 @@ stored_fits type.Address file items rela symbol bytes e = word_fits (bound_value
 stored_fits type.Call file items rela symbol bytes e = word_fits (called_value file items (r_sym file rela) symbol) _ bytes e
 stored_fits type.Low file items rela symbol bytes e = low_fits 10 _ (bound_value file items (r_sym file rela) symbol) _ _ bytes refl refl refl e
 stored_fits type.RelativeLow file items rela symbol bytes e = low_fits 2 _ (bound_value file items (r_sym file rela) symbol) _ _ bytes refl refl refl e
-stored_fits type.Resolved file items rela symbol bytes e = word_fits (placed (address_in items.resolved (r_addend file rela))) _ bytes e
+stored_fits type.Resolved file items rela symbol bytes e = word_fits (placed_value (address_in items.resolved (r_addend file rela))) _ bytes e
 stored_fits type.Module file items rela symbol bytes e = bound_fits (thread_value ModuleId file items (r_sym file rela) symbol) _ bytes e
 stored_fits type.BlockOffset file items rela symbol bytes e = bound_fits (thread_value InBlock file items (r_sym file rela) symbol) _ bytes e
 stored_fits type.ThreadOffset file items rela symbol bytes e = bound_fits (thread_value FromPointer file items (r_sym file rela) symbol) _ bytes e

@@ -6,7 +6,7 @@ use Rattle.elf_model.specs.FixturesApply.{relocation}
 use Rattle.elf_model.specs.FixturesHash.{words}
 use Rattle.elf_model.specs.FixturesSegments.{object}
 use Rattle.elf_model.specs.FixturesTables.{numbers_from, program_header, tagged}
-use Rattle.elf_model.specs.ImageItems.{ImageItems}
+use Rattle.elf_model.specs.ImageItems.{ItemValues}
 
 -- words of eight bytes
 unfoldable pub long_words : List ℕ → List ℕ
@@ -53,8 +53,8 @@ loaded_library =
     ++ loaded_dynamic)))
 
 -- a load address and the address of `f`, and what the resolver at 0x100 returns
-unfoldable pub loaded_items : ImageItems
-loaded_items = record {
+unfoldable pub items_at_base : ItemValues
+items_at_base = record {
   base = 0x7f0000000000;
   symbols = (1, 0x4010) ∷ [];
   calls = [];

@@ -11,7 +11,7 @@ use Rattle.elf_model.specs.Checks.{Check, first_refusal, header_checks, is_outsi
 use Rattle.elf_model.specs.Dynamic.{dynamic_at, dynamic_count}
 use Rattle.elf_model.specs.DynamicRelocations.{LocatedTable, located_table, tags_of}
 use Rattle.elf_model.specs.Find.{first_that}
-use Rattle.elf_model.specs.ImageItems.{ImageItems}
+use Rattle.elf_model.specs.ImageItems.{ItemValues}
 use Rattle.elf_model.specs.ImageValues.{changed_size, dynamic_symbol_checks, dynamic_type, entry_symbol, stored_bytes}
 use Rattle.elf_model.specs.LoaderScope.{checks_of_row, dynamic_segment_index, rest_checks, tagged_row}
 use Rattle.elf_model.specs.Numbers.{DT_JMPREL, DT_PLTREL, DT_PLTRELSZ, DT_REL, DT_RELA, DT_RELACOUNT, DT_RELAENT, DT_RELASZ, DT_RELENT, DT_RELR, DT_RELRENT, DT_RELRSZ, DT_RELSZ, DT_SYMTAB, EM_X86_64, PT_LOAD, R_X86_64_IRELATIVE, R_X86_64_NONE, R_X86_64_RELATIVE}
@@ -63,8 +63,8 @@ requested_checks file segment most =
     ∷ []
 
 -- the offsets of the dynamic entries up to and with the first DT_NULL
-abbrev pub dynamic_rows : List ℕ → ℕ → List ℕ
-dynamic_rows file at =
+abbrev pub image_rows_of : List ℕ → ℕ → List ℕ
+image_rows_of file at =
     places_from (dynamic_at (p_offset file at)) 0 (dynamic_count file (p_offset file at) (p_filesz file at / DYNAMIC_SIZE))
 
 -- the tags of entries on which an image depends
@@ -80,7 +80,7 @@ is_repeated file at row = elim (tagged_row file at (d_tag file row)) [ None ↦ 
 -- none of them has the tag of one before it: loaders differ in which of two they use
 unfoldable pub repeat_checks : List ℕ → ℕ → List Check
 repeat_checks file at =
-    map (λ row. refuse (list_any (λ tag. tag == d_tag file row) image_tags && is_repeated file at row) row Repeat) (dynamic_rows file at)
+    map (λ row. refuse (list_any (λ tag. tag == d_tag file row) image_tags && is_repeated file at row) row Repeat) (image_rows_of file at)
 
 -- there are no entries without addends
 unfoldable pub addend_checks : List ℕ → ℕ → List Check
@@ -140,8 +140,8 @@ linkage_checks file at = elim (rela_table file at) [
 ]
 
 -- the symbols are those at the rest of a LOAD segment, if there are entries
-unfoldable pub symbols_checks : List ℕ → ℕ → List Check
-symbols_checks file at =
+unfoldable pub image_symbol_checks : List ℕ → ℕ → List Check
+image_symbol_checks file at =
     if is_some (rela_table file at) || is_some (linkage_table file at) then checks_of_row (tagged_row file at DT_SYMTAB) (rest_checks file)
     else []
 
@@ -154,7 +154,7 @@ dynamic_image_checks file at =
     ++ located_checks (located_table file at table.Relr)
     ++ located_checks (located_table file at table.Rela)
     ++ located_checks (located_table file at table.Jmprel)
-    ++ symbols_checks file at
+    ++ image_symbol_checks file at
     ++ linkage_checks file at
 
 -- THE CHECKS BEFORE THE RELOCATIONS, with this many headers allowed and more checks, those of a
@@ -194,7 +194,7 @@ has_table file segment address = elim (holder_of file address 1) [ None ↦ fals
 -- the bytes at an address are among those of the dynamic entries
 abbrev pub meets_rows : List ℕ → (at address size : ℕ) → Bool
 meets_rows file at address size =
-    nat_lt address (p_vaddr file at + DYNAMIC_SIZE * length (dynamic_rows file at)) && nat_lt (p_vaddr file at) (address + size)
+    nat_lt address (p_vaddr file at + DYNAMIC_SIZE * length (image_rows_of file at)) && nat_lt (p_vaddr file at) (address + size)
 
 -- THE CHECKS OF A PLACE, which refuse at an offset: a segment has it, which may be written, and has
 -- no table that a loader reads, and the place has no dynamic entries: so relocations do not change
@@ -211,7 +211,7 @@ place_checks file at refused_at address size = elim (holder_of file address size
 ]
 
 -- CHANGES. Bytes that are stored at an offset of a segment, by the index of its program header, and
--- how many bytes from there may be changed
+-- how many bytes from there may be changed_image
 pub record SegmentWrite : Type 0 where
   pub segment : ℕ
   pub size : ℕ
@@ -280,7 +280,7 @@ pub record ImageSource : Type 0 where
   pub whole : List ℕ
   pub file : List ℕ
   pub at : ℕ
-  pub items : ImageItems
+  pub items : ItemValues
 
 -- what relative relocations do: each is at least 8 bytes after the one before it, the first at least
 -- at `low`, and adds the load address to the word at its address
@@ -386,7 +386,7 @@ relocation_changes source =
     ++ range_changes source 0 ranges.1
 
 -- those of a file; none without dynamic entries
-unfoldable pub image_changes : (whole file : List ℕ) → ImageItems → List ImageChange
+unfoldable pub image_changes : (whole file : List ℕ) → ItemValues → List ImageChange
 image_changes whole file items = elim (dynamic_segment_index file) [
   | None ↦ []
   | Some index ↦ relocation_changes (record { whole = whole; file = file; at = segment_at file index; items = items })
@@ -420,7 +420,7 @@ relocated_segment whole file segment writes =
     patched (stored_in segment writes) (unrelocated whole file (segment_at file segment))
 
 -- the image by the program headers, or the first refusal
-unfoldable pub image_by_segments : (whole file : List ℕ) → (headers segment most : ℕ) → ImageItems → Result (List ℕ) Refusal
+unfoldable pub image_by_segments : (whole file : List ℕ) → (headers segment most : ℕ) → ItemValues → Result (List ℕ) Refusal
 image_by_segments whole file headers segment most items =
     elim (first_refusal (image_checks file headers (requested_checks file segment most))) [
       | Some refusal ↦ Err refusal
@@ -432,5 +432,5 @@ image_by_segments whole file headers segment most items =
 
 -- THE IMAGE of a segment of at most this many bytes in memory, with this many headers allowed, or the
 -- first refusal
-unfoldable pub image : List ℕ → (headers segment most : ℕ) → ImageItems → Result (List ℕ) Refusal
+unfoldable pub image : List ℕ → (headers segment most : ℕ) → ItemValues → Result (List ℕ) Refusal
 image file headers segment most items = image_by_segments file (without_sections file) headers segment most items

@@ -5,7 +5,7 @@ use Rattle.elf_model.specs.Answer.{Answer}
 use Rattle.elf_model.specs.Apply.{places_from}
 use Rattle.elf_model.specs.FindApplyAnswer.{applied_status, applied_text}
 use Rattle.elf_model.specs.Image.{LoadedTable, SegmentWrite, image, linkage_table, rela_table, relative_table}
-use Rattle.elf_model.specs.ImageItems.{ImageItems}
+use Rattle.elf_model.specs.ImageItems.{ItemValues}
 use Rattle.elf_model.specs.LoaderScope.{dynamic_segment_index}
 use Rattle.elf_model.specs.Records.{FILE_HEADER_SIZE, PROGRAM_HEADER_SIZE, e_phnum, p_filesz, p_memsz, segment_at}
 use Rattle.elf_model.specs.Tables.{RELA_SIZE, RELR_SIZE, SYMBOL_SIZE}
@@ -59,7 +59,7 @@ image_cost file segment window met =
     + p_filesz file (segment_at file segment) + 14 * windows_of file segment window
 
 -- `image`: the bytes of a segment, or the refusal's line
-abbrev pub image_answer : List ℕ → (headers segment most : ℕ) → ImageItems → Answer
+abbrev pub image_answer : List ℕ → (headers segment most : ℕ) → ItemValues → Answer
 image_answer file headers segment most items =
     let result = image file headers segment most items in
     record { text = applied_text result; status = applied_status result }

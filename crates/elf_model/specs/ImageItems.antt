@@ -15,7 +15,7 @@ use Rattle.elf_model.specs.declared.causes.Cause.TheVariants.{Undefined, Unplace
 -- the index of a symbol the bytes of an object that is copied; the function of descriptors. And
 -- whether they are only some of those of a process: then a symbol that is looked up and has no item
 -- may be bound in any object
-pub record ImageItems : Type 0 where
+pub record ItemValues : Type 0 where
   pub base : ℕ
   pub symbols : List (ℕ × ℕ)
   pub calls : List (ℕ × ℕ)
@@ -47,13 +47,13 @@ abbrev pub item_of : List (ℕ × ℕ) → List ℕ → (index symbol : ℕ) →
 item_of items file index symbol = elim (is_looked_up file symbol) [ true ↦ address_in items index | false ↦ None ]
 
 -- the items do not say where a symbol is bound
-abbrev pub lacks_item : List ℕ → ImageItems → ℕ → Bool
+abbrev pub lacks_item : List ℕ → ItemValues → ℕ → Bool
 lacks_item file items symbol = items.partial && is_looked_up file symbol
 
 -- S of a symbol that has no item: 0 if it may be unbound; its own value if it is absolute; otherwise
 -- its place in the file, which a reserved index does not have, and of a system-specific type is not
 -- the value
-unfoldable pub own_value : List ℕ → ImageItems → ℕ → Result ℕ Cause
+unfoldable pub own_value : List ℕ → ItemValues → ℕ → Result ℕ Cause
 own_value file items symbol =
     if lacks_item file items symbol then Err Undefined
     else if is_undefined file symbol then (if may_be_unbound file symbol then Ok 0 else Err Undefined)
@@ -67,10 +67,10 @@ item_or (Some value) other = Ok value
 item_or None other = other
 
 -- S OF A SYMBOL, and as it is called
-unfoldable pub bound_value : List ℕ → ImageItems → (index symbol : ℕ) → Result ℕ Cause
+unfoldable pub bound_value : List ℕ → ItemValues → (index symbol : ℕ) → Result ℕ Cause
 bound_value file items index symbol = item_or (item_of items.symbols file index symbol) (own_value file items symbol)
 
-unfoldable pub called_value : List ℕ → ImageItems → (index symbol : ℕ) → Result ℕ Cause
+unfoldable pub called_value : List ℕ → ItemValues → (index symbol : ℕ) → Result ℕ Cause
 called_value file items index symbol = item_or (item_of items.calls file index symbol) (bound_value file items index symbol)
 
 -- WHAT A RELOCATION SAYS OF A THREAD-LOCAL SYMBOL: the module id of its object, its offset in that
@@ -81,13 +81,13 @@ pub data ThreadValue : Type 0 where
   FromPointer : ThreadValue
 
 -- the items that say it
-abbrev pub thread_items : ThreadValue → ImageItems → List (ℕ × ℕ)
+abbrev pub thread_items : ThreadValue → ItemValues → List (ℕ × ℕ)
 thread_items ModuleId items = items.modules
 thread_items InBlock items = items.blocks
 thread_items FromPointer items = items.threads
 
 -- that of the file's own symbols, by their value
-unfoldable pub own_thread_value : ThreadValue → ImageItems → ℕ → Option ℕ
+unfoldable pub own_thread_value : ThreadValue → ItemValues → ℕ → Option ℕ
 own_thread_value ModuleId items value = address_in items.modules 0
 own_thread_value InBlock items value = Some value
 own_thread_value FromPointer items value = option_map (λ block. (block + value) % 2 ^ 64) (address_in items.threads 0)
@@ -98,14 +98,14 @@ or_unplaced (Some value) = Ok (Some value)
 or_unplaced None = Err Unplaced
 
 -- of a symbol without an item: nothing if it may be unbound; that of the file's own
-unfoldable pub own_thread_symbol : ThreadValue → List ℕ → ImageItems → ℕ → Result (Option ℕ) Cause
+unfoldable pub own_thread_symbol : ThreadValue → List ℕ → ItemValues → ℕ → Result (Option ℕ) Cause
 own_thread_symbol kind file items symbol =
     if lacks_item file items symbol then Err Undefined
     else if is_undefined file symbol then (if may_be_unbound file symbol then Ok None else Err Undefined)
     else or_unplaced (own_thread_value kind items (st_value file symbol))
 
 -- that of a symbol; index 0 is the file's thread-local block, which begins with offset 0
-unfoldable pub thread_value : ThreadValue → List ℕ → ImageItems → (index symbol : ℕ) → Result (Option ℕ) Cause
+unfoldable pub thread_value : ThreadValue → List ℕ → ItemValues → (index symbol : ℕ) → Result (Option ℕ) Cause
 thread_value kind file items index symbol = elim (index == 0) [
   | true ↦ or_unplaced (own_thread_value kind items 0)
   | false ↦ elim (item_of (thread_items kind items) file index symbol) [

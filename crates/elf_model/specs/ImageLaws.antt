@@ -7,7 +7,7 @@ use Rattle.elf_model.specs.ApplyLaws.{AllInside, clipped}
 use Rattle.elf_model.specs.Bytes.{slice}
 use Rattle.elf_model.specs.Checks.{pass}
 use Rattle.elf_model.specs.Image.{SegmentWrite, has_table, holder_of, holds_in_memory, image, image_changes, read_addresses, relocated_segment, stored_in, unrelocated, writes_of}
-use Rattle.elf_model.specs.ImageItems.{ImageItems}
+use Rattle.elf_model.specs.ImageItems.{ItemValues}
 use Rattle.elf_model.specs.LoaderScope.{dynamic_segment_index}
 use Rattle.elf_model.specs.Overlaps.{overlap_checks}
 use Rattle.elf_model.specs.Records.{e_phnum, p_memsz, segment_at}
@@ -18,7 +18,7 @@ use Rattle.elf_model.specs.Traits.{has_text_relocations, permits}
 -- what is stored in a segment lies in its bytes in memory
 abbrev pub WritesAreInside : Type 0
 WritesAreInside =
-    (whole file : List ℕ) (items : ImageItems) (partial : Bool) (writes : List SegmentWrite) (segment : ℕ)
+    (whole file : List ℕ) (items : ItemValues) (partial : Bool) (writes : List SegmentWrite) (segment : ℕ)
     → writes_of partial (image_changes whole file items) ≡ Ok writes
     → AllInside (p_memsz file (segment_at file segment)) (stored_in segment writes)
 
@@ -26,7 +26,7 @@ WritesAreInside =
 -- or of symbols
 abbrev pub TablesAreKept : Type 0
 TablesAreKept =
-    (whole file : List ℕ) (items : ImageItems) (partial : Bool) (writes : List SegmentWrite) (index : ℕ)
+    (whole file : List ℕ) (items : ItemValues) (partial : Bool) (writes : List SegmentWrite) (index : ℕ)
     → dynamic_segment_index file ≡ Some index
     → writes_of partial (image_changes whole file items) ≡ Ok writes
     → All (λ write. list_any (has_table file write.segment) (read_addresses file (segment_at file index)) ≡ false) writes
@@ -34,14 +34,14 @@ TablesAreKept =
 -- an image has as many bytes as its segment has in memory
 abbrev pub ImageIsWhole : Type 0
 ImageIsWhole =
-    (file : List ℕ) (headers segment most : ℕ) (items : ImageItems) (bytes : List ℕ)
+    (file : List ℕ) (headers segment most : ℕ) (items : ItemValues) (bytes : List ℕ)
     → image file headers segment most items ≡ Ok bytes
     → length bytes ≡ p_memsz (without_sections file) (segment_at (without_sections file) segment)
 
 -- a segment that may not be written is as it is in the file, with zeros after it
 abbrev pub UnwrittenIsKept : Type 0
 UnwrittenIsKept =
-    (file : List ℕ) (headers segment most : ℕ) (items : ImageItems) (bytes : List ℕ)
+    (file : List ℕ) (headers segment most : ℕ) (items : ItemValues) (bytes : List ℕ)
     → image file headers segment most items ≡ Ok bytes
     → permits (without_sections file) PF_W segment || has_text_relocations (without_sections file) ≡ false
     → bytes ≡ unrelocated file (without_sections file) (segment_at (without_sections file) segment)
@@ -49,7 +49,7 @@ UnwrittenIsKept =
 -- so is one of a file without dynamic entries
 abbrev pub UnlinkedIsKept : Type 0
 UnlinkedIsKept =
-    (file : List ℕ) (headers segment most : ℕ) (items : ImageItems) (bytes : List ℕ)
+    (file : List ℕ) (headers segment most : ℕ) (items : ItemValues) (bytes : List ℕ)
     → image file headers segment most items ≡ Ok bytes
     → dynamic_segment_index (without_sections file) ≡ None
     → bytes ≡ unrelocated file (without_sections file) (segment_at (without_sections file) segment)

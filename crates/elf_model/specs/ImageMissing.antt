@@ -6,7 +6,7 @@ use Rattle.elf_model.specs.Checks.{first_refusal}
 use Rattle.elf_model.specs.Fields.{Field, Fields, closed_line}
 use Rattle.elf_model.specs.Fields.Field.{ArgSpec, Decimal, Hexadecimal}
 use Rattle.elf_model.specs.Image.{ImageChange, Keeps, Lacks, Refuses, Stores, image_changes, image_checks}
-use Rattle.elf_model.specs.ImageItems.{ImageItems}
+use Rattle.elf_model.specs.ImageItems.{ItemValues}
 use Rattle.elf_model.specs.NameTables.{relocation_type_text}
 use Rattle.elf_model.specs.Numbers.{EM_X86_64}
 use Rattle.elf_model.specs.Records.{r_offset, r_sym, r_type}
@@ -27,7 +27,7 @@ lacks_of (Refuses refusal ∷ changes) = Err refusal
 lacks_of (Lacks lack ∷ changes) = and_lacks lack (lacks_of changes)
 lacks_of (Stores write ∷ changes) = lacks_of changes
 
-unfoldable pub missing_by_segments : (whole file : List ℕ) → (headers : ℕ) → ImageItems → Result (List Refusal) Refusal
+unfoldable pub missing_by_segments : (whole file : List ℕ) → (headers : ℕ) → ItemValues → Result (List Refusal) Refusal
 missing_by_segments whole file headers items = elim (first_refusal (image_checks file headers [])) [
   | Some refusal ↦ Err refusal
   | None ↦ lacks_of (image_changes whole file items)
@@ -35,7 +35,7 @@ missing_by_segments whole file headers items = elim (first_refusal (image_checks
 
 -- THE ENTRIES OF A FILE THAT LACK AN ITEM, in the order in which a loader applies them, with this many
 -- headers allowed; or the first refusal
-unfoldable pub missing_entries : List ℕ → (headers : ℕ) → ImageItems → Result (List Refusal) Refusal
+unfoldable pub missing_entries : List ℕ → (headers : ℕ) → ItemValues → Result (List Refusal) Refusal
 missing_entries file headers items = missing_by_segments file (without_sections file) headers items
 
 -- the line of an entry: its offset, the address that it changes, its type, the index of its symbol,

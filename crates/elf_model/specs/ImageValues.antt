@@ -3,7 +3,7 @@
 use Rattle.std.specs.Prelude.{ℕ, ◌+◌, ◌*◌, ◌%◌, ◌^◌, ◌==◌, ◌&&◌, nat_lt, not, is_none, if◌then◌else◌, Bool, true, false, List, [], ◌∷◌, ◌++◌, length, Option, None, Some, Result, Ok, Err}
 use Rattle.elf_model.specs.Bytes.{little}
 use Rattle.elf_model.specs.Checks.{Check, refuse}
-use Rattle.elf_model.specs.ImageItems.{ImageItems, FromPointer, InBlock, ModuleId, bound_value, bytes_for, called_value, is_looked_up, thread_value}
+use Rattle.elf_model.specs.ImageItems.{ItemValues, FromPointer, InBlock, ModuleId, bound_value, bytes_for, called_value, is_looked_up, thread_value}
 use Rattle.elf_model.specs.LoaderScope.{segment_symbols, tagged_row}
 use Rattle.elf_model.specs.Numbers.{DT_SYMTAB}
 use Rattle.elf_model.specs.Placing.{address_in}
@@ -78,14 +78,14 @@ word_if_bound (Ok None) addend = Ok []
 word_if_bound (Err cause) addend = Err cause
 
 -- the bytes of a type of `apply` whose B is S, by its number
-abbrev pub low_bytes : (number : ℕ) → Result ℕ Cause → (addend place : ℕ) → Result (List ℕ) Cause
-low_bytes number (Ok s) addend place = value number s s (twos_complement addend) place
-low_bytes number (Err cause) addend place = Err cause
+abbrev pub low_four_bytes : (number : ℕ) → Result ℕ Cause → (addend place : ℕ) → Result (List ℕ) Cause
+low_four_bytes number (Ok s) addend place = value number s s (twos_complement addend) place
+low_four_bytes number (Err cause) addend place = Err cause
 
 -- an address, or no place
-abbrev pub placed : Option ℕ → Result ℕ Cause
-placed (Some address) = Ok address
-placed None = Err Unplaced
+abbrev pub placed_value : Option ℕ → Result ℕ Cause
+placed_value (Some address) = Ok address
+placed_value None = Err Unplaced
 
 -- the bytes of an object, if its symbol is looked up: no more than the symbol has
 unfoldable pub copied_bytes : Bool → Option (List ℕ) → (size : ℕ) → Result (List ℕ) Cause
@@ -101,21 +101,21 @@ descriptor_bytes None (Ok (Some value)) addend = Err Unplaced
 descriptor_bytes (Some function) (Ok (Some value)) addend = Ok (little 8 function ++ little 8 ((value + addend) % 2 ^ 64))
 
 -- P, the place of an entry in memory
-abbrev pub place_of_entry : List ℕ → ImageItems → (rela : ℕ) → ℕ
+abbrev pub place_of_entry : List ℕ → ItemValues → (rela : ℕ) → ℕ
 place_of_entry file items rela = (items.base + r_offset file rela) % 2 ^ 64
 
 -- WHAT AN ENTRY STORES, by its type, A and the index and the offset of its symbol; or the cause for
 -- which it has no value
-unfoldable pub stored_bytes : DynamicType → List ℕ → ImageItems → (rela symbol : ℕ) → Result (List ℕ) Cause
+unfoldable pub stored_bytes : DynamicType → List ℕ → ItemValues → (rela symbol : ℕ) → Result (List ℕ) Cause
 stored_bytes Relative file items rela symbol = word_of (Ok items.base) (r_addend file rela)
 stored_bytes Absolute file items rela symbol = word_of (bound_value file items (r_sym file rela) symbol) (r_addend file rela)
 stored_bytes Address file items rela symbol = word_of (bound_value file items (r_sym file rela) symbol) 0
 stored_bytes Call file items rela symbol = word_of (called_value file items (r_sym file rela) symbol) 0
 stored_bytes Low file items rela symbol =
-    low_bytes 10 (bound_value file items (r_sym file rela) symbol) (r_addend file rela) (place_of_entry file items rela)
+    low_four_bytes 10 (bound_value file items (r_sym file rela) symbol) (r_addend file rela) (place_of_entry file items rela)
 stored_bytes RelativeLow file items rela symbol =
-    low_bytes 2 (bound_value file items (r_sym file rela) symbol) (r_addend file rela) (place_of_entry file items rela)
-stored_bytes Resolved file items rela symbol = word_of (placed (address_in items.resolved (r_addend file rela))) 0
+    low_four_bytes 2 (bound_value file items (r_sym file rela) symbol) (r_addend file rela) (place_of_entry file items rela)
+stored_bytes Resolved file items rela symbol = word_of (placed_value (address_in items.resolved (r_addend file rela))) 0
 stored_bytes Module file items rela symbol = word_if_bound (thread_value ModuleId file items (r_sym file rela) symbol) 0
 stored_bytes BlockOffset file items rela symbol =
     word_if_bound (thread_value InBlock file items (r_sym file rela) symbol) (r_addend file rela)

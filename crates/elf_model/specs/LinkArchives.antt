@@ -19,7 +19,7 @@ use Rattle.elf_model.specs.declared.link_states.LinkCause.{LinkCause}
 use Rattle.elf_model.specs.declared.link_states.LinkCause.TheVariants as cause
 use Rattle.elf_model.specs.declared.link_states.LinkRefusal.{LinkRefusal}
 use Rattle.elf_model.specs.declared.link_states.LinkRow.{LinkRow}
-use Rattle.elf_model.specs.declared.link_states.RowKind.TheVariants as kind
+use Rattle.elf_model.specs.declared.link_states.LinkRowKind.TheVariants as kind
 
 -- THE INDEX of an archive is its first member, called `/`, with numbers of four bytes, or `/SYM64/`,
 -- with numbers of eight; they are big-endian
@@ -34,8 +34,8 @@ index_width file =
     else None
 
 -- the member whose header is at an offset is the index or the table of names
-abbrev pub is_index : List ℕ → (at : ℕ) → Bool
-is_index file at =
+abbrev pub is_archive_index : List ℕ → (at : ℕ) → Bool
+is_archive_index file at =
     field file (at + 8) 8 == 0x2020202020202020 && (field file at 8 == 0x202020202020202f || field file at 8 == 0x202f34364d59532f)
 
 abbrev pub big : List ℕ → (at width : ℕ) → ℕ
@@ -50,11 +50,11 @@ header_offsets (suc most) file p = elim (next_member file 0 p) [
   | OneMember member ↦ p.at ∷ header_offsets most file (behind file p member)
 ]
 
-abbrev pub headers_of : List ℕ → List ℕ
-headers_of file = header_offsets (length file) file before_members
+abbrev pub member_headers : List ℕ → List ℕ
+member_headers file = header_offsets (length file) file before_members
 
-abbrev pub member_at : List ℕ → (at : ℕ) → Option ℕ
-member_at file at = position (λ other. other == at) (headers_of file)
+abbrev pub archive_member : List ℕ → (at : ℕ) → Option ℕ
+archive_member file at = position (λ other. other == at) (member_headers file)
 
 -- what an index has: count, offsets, and names that each end in a NUL
 abbrev pub symbol_of_index : List ℕ → (member : ℕ) → IndexSymbol
@@ -76,7 +76,7 @@ index_symbols file bytes start width index (suc count) names =
     let at = width * (index + 1) in
     elim (nul_in names) [
       | None ↦ Err (record { at = FIRST_MEMBER; cause = cause.IndexCut })
-      | Some end ↦ elim (member_at file (big bytes at width)) [
+      | Some end ↦ elim (archive_member file (big bytes at width)) [
         | None ↦ Err (record { at = start + at; cause = cause.IndexMember })
         | Some member ↦ symbols_after (symbol_of_index (take end names) member) (index_symbols file bytes start width (index + 1) count (drop (end + 1) names))
       ]
@@ -123,11 +123,11 @@ abbrev pub whole_members : List ℕ → (offsets : List ℕ) → List Member →
 whole_members file [] members headers cap = []
 whole_members file (at ∷ offsets) [] headers cap = []
 whole_members file (at ∷ offsets) (member ∷ members) headers cap =
-    if is_index file at || is_name_table file at then whole_members file offsets members headers cap
+    if is_archive_index file at || is_name_table file at then whole_members file offsets members headers cap
     else (member.index, or_empty (object_of (bytes_in file member.extent) headers cap)) ∷ whole_members file offsets members headers cap
 
-abbrev pub walk_refusal : List ℕ → Option LinkRefusal
-walk_refusal file = elim (first_refusal (archive_checks file)) [
+abbrev pub members_refusal : List ℕ → Option LinkRefusal
+members_refusal file = elim (first_refusal (archive_checks file)) [
   | Some refusal ↦ Some (as_any refusal)
   | None ↦ elim (members_of file 0).refusal [ None ↦ None | Some refusal ↦ Some (as_any refusal) ]
 ]
@@ -139,11 +139,11 @@ searched_by file headers cap (Ok symbols) =
     Ok (SearchedFile (length members) symbols (members_as_objects file members headers cap))
 
 abbrev pub archive_as : (whole : Bool) → List ℕ → (headers cap : ℕ) → Result InputFile LinkRefusal
-archive_as true file headers cap = Ok (WholeFile (whole_members file (headers_of file) (members_of file 0).members headers cap))
+archive_as true file headers cap = Ok (WholeFile (whole_members file (member_headers file) (members_of file 0).members headers cap))
 archive_as false file headers cap = searched_by file headers cap (archive_index file (members_of file 0).members)
 
 unfoldable pub archive_input : (whole : Bool) → List ℕ → (headers cap : ℕ) → Result InputFile LinkRefusal
-archive_input whole file headers cap = elim (walk_refusal file) [
+archive_input whole file headers cap = elim (members_refusal file) [
   | Some refusal ↦ Err refusal
   | None ↦ archive_as whole file headers cap
 ]
@@ -153,13 +153,13 @@ abbrev pub object_input : Result LinkObject LinkRefusal → Result InputFile Lin
 object_input (Err refusal) = Err refusal
 object_input (Ok object) = Ok (ObjectFile object)
 
-abbrev pub is_archive : List ℕ → Bool
-is_archive file = not (nat_lt (length file) 8) && (field file 0 8 == 0x0a3e686372613c21 || field file 0 8 == 0x0a3e6e6968743c21)
+abbrev pub has_archive_magic : List ℕ → Bool
+has_archive_magic file = not (nat_lt (length file) 8) && (field file 0 8 == 0x0a3e686372613c21 || field file 0 8 == 0x0a3e6e6968743c21)
 
 unfoldable pub input_of : (whole : Bool) → Option (List ℕ) → (headers cap : ℕ) → Result InputFile LinkRefusal
 input_of whole None headers cap = Ok MissingFile
 input_of whole (Some file) headers cap =
-    if is_archive file then archive_input whole file headers cap else object_input (object_of file headers cap)
+    if has_archive_magic file then archive_input whole file headers cap else object_input (object_of file headers cap)
 
 -- INPUTS BY THEIR BYTES: each one's file, if there is one; which of them are archives of which all
 -- members are taken; how many headers are allowed in each, and bytes of a name
@@ -205,7 +205,7 @@ unfoldable pub link_cause_word : LinkCause → List ℕ
 link_cause_word (cause.Refused other) = cause_word other
 link_cause_word cause.FileType = codes "type"
 link_cause_word cause.Machine = codes "machine"
-link_cause_word cause.Script = codes "script"
+link_cause_word cause.ScriptFault = codes "script"
 link_cause_word cause.Lto = codes "lto"
 link_cause_word cause.NoIndex = codes "no-index"
 link_cause_word cause.IndexCut = codes "index-cut"

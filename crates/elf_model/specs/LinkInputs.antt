@@ -1,12 +1,12 @@
 -- The inputs of a link in their order, and groups of them.
 use Rattle.std.specs.Prelude.{ℕ, zero, suc, ◌+◌, ◌==◌, if◌then◌else◌, Bool, false, List, [], ◌∷◌, ◌++◌, length, map, replicate, Option, None, Some}
-use Rattle.elf_model.specs.LinkKeys.{LinkKeys, LinkSymbol, entered, index_of, no_keys, symbols_taken}
+use Rattle.elf_model.specs.LinkKeys.{LinkKeys, LinkSymbol, entered, key_index, no_keys, symbols_taken}
 use Rattle.elf_model.specs.LinkObjects.{LinkObject, object_taken}
 use Rattle.elf_model.specs.LinkPasses.{ArchiveMembers, ArchivePass, archive_searched, untaken}
 use Rattle.elf_model.specs.declared.link_states.IndexEntry.{IndexEntry}
 use Rattle.elf_model.specs.declared.link_states.LinkRow.{LinkRow}
-use Rattle.elf_model.specs.declared.link_states.RowKind.{RowKind}
-use Rattle.elf_model.specs.declared.link_states.RowKind.TheVariants.{Object, Archive, Member, Missing}
+use Rattle.elf_model.specs.declared.link_states.LinkRowKind.{LinkRowKind}
+use Rattle.elf_model.specs.declared.link_states.LinkRowKind.TheVariants.{Object, Archive, Member, Missing}
 use Rattle.elf_model.specs.declared.link_states.SymbolRole.TheVariants.{Reference}
 use Rattle.elf_model.specs.declared.link_states.SymbolUse.{SymbolUse}
 
@@ -46,7 +46,7 @@ pub record Linking : Type 0 where
   pub archives : List OpenArchive
 
 -- the row of a file that is no member
-abbrev pub file_row : RowKind → (index : ℕ) → LinkRow
+abbrev pub file_row : LinkRowKind → (index : ℕ) → LinkRow
 file_row kind index = record { kind = kind; input = index; archive = None; member = None; reason = None }
 
 abbrev pub with_row : Linking → LinkRow → Linking
@@ -77,12 +77,12 @@ default_entered keys (Some name) = entered keys name
 
 abbrev pub default_index : LinkKeys → Option (List ℕ) → (key : ℕ) → ℕ
 default_index keys None key = key
-default_index keys (Some name) key = index_of keys name
+default_index keys (Some name) key = key_index keys name
 
 unfoldable pub symbol_entered : EnteredIndex → IndexSymbol → EnteredIndex
 symbol_entered before s =
     let keys = entered before.keys s.name in
-    let key = index_of before.keys s.name in
+    let key = key_index before.keys s.name in
     record {
       keys = default_entered keys s.default_name;
       entries = before.entries ++ record { key = key; default_key = default_index keys s.default_name key; member = s.member } ∷ [];

@@ -9,7 +9,7 @@ use Rattle.elf_model.specs.declared.link_states.KeyState.{KeyState}
 use Rattle.elf_model.specs.declared.link_states.KeyState.TheVariants.{New, Undefined, Shared}
 use Rattle.elf_model.specs.declared.link_states.KeyState.TheVariants as state
 use Rattle.elf_model.specs.declared.link_states.StateChange.{StateChange}
-use Rattle.elf_model.specs.declared.link_states.StateChange.TheVariants.{Stays, Multiple, Enlarged, Becomes}
+use Rattle.elf_model.specs.declared.link_states.StateChange.TheVariants.{Stays, Multiple, Enlarged, BecomesState}
 use Rattle.elf_model.specs.declared.link_states.SymbolRole.{SymbolRole}
 use Rattle.elf_model.specs.declared.link_states.SymbolRole.TheVariants.{WeakReference, Reference}
 use Rattle.elf_model.specs.declared.link_states.SymbolRole.TheVariants as role
@@ -62,19 +62,19 @@ abbrev pub index_or : Option ℕ → ℕ → ℕ
 index_or None next = next
 index_or (Some index) next = index
 
-unfoldable pub index_of : LinkKeys → List ℕ → ℕ
-index_of keys name = index_or (key_in keys.names name) (length keys.names)
+unfoldable pub key_index : LinkKeys → List ℕ → ℕ
+key_index keys name = index_or (key_in keys.names name) (length keys.names)
 
 -- what is known of the key of an index, and of a name
-abbrev pub entry_of : LinkKeys → ℕ → KeyEntry
-entry_of keys index = get_or keys.entries index new_key
+abbrev pub entry_named_as : LinkKeys → ℕ → KeyEntry
+entry_named_as keys index = get_or keys.entries index new_key
 
-abbrev pub entry_at : Option ℕ → LinkKeys → KeyEntry
-entry_at None keys = new_key
-entry_at (Some index) keys = entry_of keys index
+abbrev pub key_entry : Option ℕ → LinkKeys → KeyEntry
+key_entry None keys = new_key
+key_entry (Some index) keys = entry_named_as keys index
 
 unfoldable pub entry_named : LinkKeys → List ℕ → KeyEntry
-entry_named keys name = entry_at (key_in keys.names name) keys
+entry_named keys name = key_entry (key_in keys.names name) keys
 
 -- keys with another entry for the key of an index
 abbrev pub with_entry : LinkKeys → ℕ → KeyEntry → LinkKeys
@@ -98,8 +98,8 @@ abbrev pub is_shared : SymbolRole → Bool
 is_shared (role.Shared symbol) = true
 is_shared _ = false
 
-abbrev pub change_of : KeyEntry → SymbolUse → StateChange
-change_of entry symbol = if entry.is_restricted && is_shared symbol.role then Stays else state_change entry.state symbol.role
+abbrev pub key_change : KeyEntry → SymbolUse → StateChange
+key_change entry symbol = if entry.is_restricted && is_shared symbol.role then Stays else state_change entry.state symbol.role
 
 -- a state that is made asks for a definition: the key becomes undefined, or a common of which no
 -- symbol was met before
@@ -109,11 +109,11 @@ asks_after New (state.Common size) = true
 asks_after before _ = false
 
 -- an entry after a change
-abbrev pub changed : KeyEntry → SymbolUse → (row : Option ℕ) → StateChange → KeyEntry
-changed entry symbol row Stays = entry
-changed entry symbol row Multiple = entry
-changed entry symbol row (Enlarged size) = record entry { state = state.Common size }
-changed entry symbol row (Becomes made) =
+abbrev pub key_changed : KeyEntry → SymbolUse → (row : Option ℕ) → StateChange → KeyEntry
+key_changed entry symbol row Stays = entry
+key_changed entry symbol row Multiple = entry
+key_changed entry symbol row (Enlarged size) = record entry { state = state.Common size }
+key_changed entry symbol row (BecomesState made) =
     record entry { state = made; row = row; absolute = symbol.absolute; is_asked = entry.is_asked || asks_after entry.state made }
 
 -- the row is the first that references the key, weakly or not; a dropped definition references
@@ -136,7 +136,7 @@ noted symbol row entry = record entry {
 unfoldable pub used : KeyEntry → SymbolUse → (row : Option ℕ) → KeyEntry
 used entry symbol row =
     let before = prepared entry symbol in
-    noted symbol row (references_by symbol symbol.role row (changed before symbol row (change_of before symbol)))
+    noted symbol row (references_by symbol symbol.role row (key_changed before symbol row (key_change before symbol)))
 
 -- two absolute definitions of one value are one
 abbrev pub is_same_value : Option ℕ → Option ℕ → Bool
@@ -151,7 +151,7 @@ is_multiple _ = false
 abbrev pub is_further : KeyEntry → SymbolUse → Bool
 is_further entry symbol =
     let before = prepared entry symbol in
-    is_multiple (change_of before symbol) && not (is_same_value before.absolute symbol.absolute)
+    is_multiple (key_change before symbol) && not (is_same_value before.absolute symbol.absolute)
 
 abbrev pub further_after : List FurtherDefinition → (index : ℕ) → (row : Option ℕ) → (is_one : Bool) → List FurtherDefinition
 further_after further index row is_one = if is_one then further ++ record { key = index; row = row } ∷ [] else further
@@ -160,24 +160,24 @@ abbrev pub order_after : List ℕ → (index : ℕ) → (is_met : Bool) → List
 order_after order index is_met = if is_met then order else order ++ index ∷ []
 
 -- one more key is asked for
-abbrev pub asked_after : ℕ → (before after : KeyEntry) → ℕ
-asked_after asked before after = if after.is_asked && not before.is_asked then asked + 1 else asked
+abbrev pub references_after : ℕ → (before after : KeyEntry) → ℕ
+references_after asked before after = if after.is_asked && not before.is_asked then asked + 1 else asked
 
 unfoldable pub key_used : LinkKeys → ℕ → SymbolUse → (row : Option ℕ) → LinkKeys
 key_used keys index symbol row =
-    let entry = entry_of keys index in
+    let entry = entry_named_as keys index in
     let after = used entry symbol row in
     record {
       names = keys.names;
       entries = set keys.entries index after;
       order = order_after keys.order index entry.is_met;
-      asked = asked_after keys.asked entry after;
+      asked = references_after keys.asked entry after;
       further = further_after keys.further index row (is_further entry symbol);
     }
 
 -- a name used
 unfoldable pub name_used : (row : Option ℕ) → LinkKeys → List ℕ → SymbolUse → LinkKeys
-name_used row keys name symbol = key_used (entered keys name) (index_of keys name) symbol row
+name_used row keys name symbol = key_used (entered keys name) (key_index keys name) symbol row
 
 -- A SYMBOL OF A FILE: its name, with its version if it has one; the name without the version if that
 -- is the default one; and how it uses them

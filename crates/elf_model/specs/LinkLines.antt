@@ -2,7 +2,7 @@
 use Rattle.std.specs.Prelude.{ℕ, ◌+◌, ◌==◌, ◌&&◌, ◌||◌, not, if◌then◌else◌, Bool, true, false, List, [], ◌∷◌, ◌++◌, codes, drop, take, get_or, length, map, is_some, Option, None, Some, bytes_eq}
 use Rattle.std.specs.List.{filter, list_any}
 use Rattle.elf_model.specs.LinkInputs.{Linking, OpenArchive}
-use Rattle.elf_model.specs.LinkKeys.{LinkKeys, entry_of}
+use Rattle.elf_model.specs.LinkKeys.{LinkKeys, entry_named_as}
 use Rattle.elf_model.specs.declared.link_states.FurtherDefinition.{FurtherDefinition}
 use Rattle.elf_model.specs.declared.link_states.IndexEntry.{IndexEntry}
 use Rattle.elf_model.specs.declared.link_states.KeyEntry.{KeyEntry}
@@ -10,8 +10,8 @@ use Rattle.elf_model.specs.declared.link_states.KeyState.{KeyState}
 use Rattle.elf_model.specs.declared.link_states.KeyState.TheVariants.{New, Weak, Undefined, WeakDefined, Defined, Shared}
 use Rattle.elf_model.specs.declared.link_states.KeyState.TheVariants as state
 use Rattle.elf_model.specs.declared.link_states.LinkRow.{LinkRow}
-use Rattle.elf_model.specs.declared.link_states.RowKind.{RowKind}
-use Rattle.elf_model.specs.declared.link_states.RowKind.TheVariants as kind
+use Rattle.elf_model.specs.declared.link_states.LinkRowKind.{LinkRowKind}
+use Rattle.elf_model.specs.declared.link_states.LinkRowKind.TheVariants as kind
 use Rattle.elf_model.specs.Fields.{Field, Fields, LinePrefix, front}
 use Rattle.elf_model.specs.Fields.Field.{Decimal, ArgSpec, NameOrDecimal}
 use Rattle.elf_model.specs.LinkKeys.{entry_named}
@@ -21,15 +21,15 @@ use Rattle.elf_model.specs.Names.DisplayedName.{Whole}
 use Rattle.elf_model.specs.declared.formats.Format.{Format}
 
 -- the kind of a file, in its line
-abbrev pub kind_word : RowKind → List ℕ
-kind_word kind.Object = codes "object"
-kind_word kind.Shared = codes "shared"
-kind_word kind.Unneeded = codes "unneeded"
-kind_word kind.Same = codes "same"
-kind_word kind.Archive = codes "archive"
-kind_word kind.Member = codes "member"
-kind_word kind.Missing = codes "missing"
-kind_word kind.Refused = codes "refused"
+abbrev pub row_kind_word : LinkRowKind → List ℕ
+row_kind_word kind.Object = codes "object"
+row_kind_word kind.Shared = codes "shared"
+row_kind_word kind.Unneeded = codes "unneeded"
+row_kind_word kind.Same = codes "same"
+row_kind_word kind.Archive = codes "archive"
+row_kind_word kind.Member = codes "member"
+row_kind_word kind.Missing = codes "missing"
+row_kind_word kind.Refused = codes "refused"
 
 -- a row or a member by its index, or a hyphen
 abbrev pub index_field : (key : List ℕ) → Option ℕ → Field
@@ -42,7 +42,7 @@ file_fields index row = record {
   letter = codes "I";
   fields =
       Decimal (codes "index") 5 index
-      ∷ ArgSpec (codes "kind") 8 (kind_word row.kind)
+      ∷ ArgSpec (codes "kind") 8 (row_kind_word row.kind)
       ∷ index_field (codes "archive") row.archive
       ∷ index_field (codes "member") row.member
       ∷ [];
@@ -145,8 +145,8 @@ has_key key entry = entry.key == key || entry.default_key == key
 abbrev pub offered_by : (key : ℕ) → OpenArchive → Bool
 offered_by key archive = list_any (has_key key) archive.entries
 
-abbrev pub is_offered : (key : ℕ) → List OpenArchive → Bool
-is_offered key archives = list_any (offered_by key) archives
+abbrev pub is_available : (key : ℕ) → List OpenArchive → Bool
+is_available key archives = list_any (offered_by key) archives
 
 abbrev pub is_further_of : (key : ℕ) → FurtherDefinition → Bool
 is_further_of key further = further.key == key
@@ -156,34 +156,34 @@ abbrev pub reference_of : KeyEntry → Option ℕ
 reference_of entry = elim entry.reference [ None ↦ entry.weak_reference | Some row ↦ Some row ]
 
 -- THE STATE OF A KEY AT THE END, in its line
-abbrev pub undefined_word : (is_referenced is_made is_offered : Bool) → (otherwise : List ℕ) → List ℕ
-undefined_word is_referenced is_made is_offered otherwise =
+abbrev pub undefined_word : (is_referenced is_made is_available : Bool) → (otherwise : List ℕ) → List ℕ
+undefined_word is_referenced is_made is_available otherwise =
     if is_made then codes "linker"
     else if not is_referenced then codes "unused"
-    else if is_offered then codes "order"
+    else if is_available then codes "order"
     else otherwise
 
-abbrev pub state_word : KeyState → (is_multiple is_referenced is_made is_offered : Bool) → List ℕ
-state_word Defined is_multiple is_referenced is_made is_offered = if is_multiple then codes "multiple" else codes "defined"
-state_word WeakDefined is_multiple is_referenced is_made is_offered = codes "weakdef"
-state_word (state.Common size) is_multiple is_referenced is_made is_offered = codes "common"
-state_word (Shared symbol) is_multiple is_referenced is_made is_offered = codes "shared"
-state_word Undefined is_multiple is_referenced is_made is_offered = undefined_word is_referenced is_made is_offered (codes "undef")
-state_word Weak is_multiple is_referenced is_made is_offered = undefined_word is_referenced is_made false (codes "weak")
-state_word New is_multiple is_referenced is_made is_offered = undefined_word is_referenced is_made false (codes "unused")
+abbrev pub key_state_word : KeyState → (is_multiple is_referenced is_made is_available : Bool) → List ℕ
+key_state_word Defined is_multiple is_referenced is_made is_available = if is_multiple then codes "multiple" else codes "defined"
+key_state_word WeakDefined is_multiple is_referenced is_made is_available = codes "weakdef"
+key_state_word (state.Common size) is_multiple is_referenced is_made is_available = codes "common"
+key_state_word (Shared symbol) is_multiple is_referenced is_made is_available = codes "shared"
+key_state_word Undefined is_multiple is_referenced is_made is_available = undefined_word is_referenced is_made is_available (codes "undef")
+key_state_word Weak is_multiple is_referenced is_made is_available = undefined_word is_referenced is_made false (codes "weak")
+key_state_word New is_multiple is_referenced is_made is_available = undefined_word is_referenced is_made false (codes "unused")
 
 unfoldable pub word_of_key : LinkOutput → Linking → (key : ℕ) → List ℕ
 word_of_key output link key =
-    let entry = entry_of link.keys key in
-    state_word entry.state (list_any (is_further_of key) link.keys.further) (is_some (reference_of entry))
-    (linker_defines output link.keys (get_or link.keys.names key [])) (is_offered key link.archives)
+    let entry = entry_named_as link.keys key in
+    key_state_word entry.state (list_any (is_further_of key) link.keys.further) (is_some (reference_of entry))
+    (linker_defines output link.keys (get_or link.keys.names key [])) (is_available key link.archives)
 
 -- the row that defines a key
-abbrev pub definer_in : KeyState → Option ℕ → Option ℕ
-definer_in New row = None
-definer_in Weak row = None
-definer_in Undefined row = None
-definer_in _ row = row
+abbrev pub definition_row : KeyState → Option ℕ → Option ℕ
+definition_row New row = None
+definition_row Weak row = None
+definition_row Undefined row = None
+definition_row _ row = row
 
 -- the lines after that of a key
 abbrev pub is_any : List (List ℕ) → List ℕ → Bool
@@ -208,16 +208,16 @@ lines_after format link name key word =
 
 unfoldable pub key_lines : Format → LinkOutput → Linking → (key : ℕ) → List (List ℕ)
 key_lines format output link key =
-    let entry = entry_of link.keys key in
+    let entry = entry_named_as link.keys key in
     let name = get_or link.keys.names key [] in
     let word = word_of_key output link key in
-    named_line (key_front format word (definer_in entry.state entry.row) (reference_of entry)) (Whole name) ∷ lines_after format link name key word
+    named_line (key_front format word (definition_row entry.state entry.row) (reference_of entry)) (Whole name) ∷ lines_after format link name key word
 
 -- the keys that an object has a symbol of, in the order in which they were first named
 abbrev pub keys_lines : Format → LinkOutput → Linking → List ℕ → List (List ℕ)
 keys_lines format output link [] = []
 keys_lines format output link (key ∷ keys) =
-    (if (entry_of link.keys key).is_own then key_lines format output link key else []) ++ keys_lines format output link keys
+    (if (entry_named_as link.keys key).is_own then key_lines format output link key else []) ++ keys_lines format output link keys
 
 -- THE LINES OF A LINK: its files, then its keys
 unfoldable pub link_lines : Format → LinkOutput → FileNames → Linking → List (List ℕ)
@@ -225,13 +225,13 @@ link_lines format output names link =
     rows_lines format names link.keys 0 link.rows ++ keys_lines format output link link.keys.order
 
 -- a link has an undefined or a multiple key, or lacks a file
-abbrev pub is_missing : RowKind → Bool
+abbrev pub is_missing : LinkRowKind → Bool
 is_missing kind.Missing = true
 is_missing _ = false
 
 abbrev pub is_unresolved : LinkOutput → Linking → ℕ → Bool
 is_unresolved output link key =
-    (entry_of link.keys key).is_own && is_any (codes "undef" ∷ codes "order" ∷ codes "multiple" ∷ []) (word_of_key output link key)
+    (entry_named_as link.keys key).is_own && is_any (codes "undef" ∷ codes "order" ∷ codes "multiple" ∷ []) (word_of_key output link key)
 
 unfoldable pub link_fails : LinkOutput → Linking → Bool
 link_fails output link =

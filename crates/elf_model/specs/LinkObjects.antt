@@ -2,7 +2,7 @@
 -- known (gABI 4, Section Groups), and its symbols.
 use Rattle.std.specs.Prelude.{ℕ, ◌==◌, if◌then◌else◌, Bool, true, false, List, [], ◌∷◌, ◌++◌, map, Option, None, Some}
 use Rattle.std.specs.List.{list_any}
-use Rattle.elf_model.specs.LinkKeys.{LinkKeys, LinkSymbol, entered, entry_of, index_of, symbols_taken, with_entry}
+use Rattle.elf_model.specs.LinkKeys.{LinkKeys, LinkSymbol, entered, entry_named_as, key_index, symbols_taken, with_entry}
 use Rattle.elf_model.specs.declared.link_states.KeyEntry.{KeyEntry}
 use Rattle.elf_model.specs.declared.link_states.SymbolRole.{SymbolRole}
 use Rattle.elf_model.specs.declared.link_states.SymbolRole.TheVariants.{WeakReference, Reference, WeakDefinition, Definition}
@@ -40,7 +40,7 @@ kept true entry = record entry { is_link_once = true }
 kept false entry = record entry { is_group = true }
 
 unfoldable pub signature_kept : LinkKeys → ℕ → (is_link_once : Bool) → LinkKeys
-signature_kept keys index is_link_once = with_entry keys index (kept is_link_once (entry_of keys index))
+signature_kept keys index is_link_once = with_entry keys index (kept is_link_once (entry_named_as keys index))
 
 -- THE DROPPED SECTIONS: keys, and the sections of the groups that are dropped
 pub record DroppedSections : Type 0 where
@@ -50,10 +50,10 @@ pub record DroppedSections : Type 0 where
 abbrev pub group_taken : DroppedSections → SectionGroup → DroppedSections
 group_taken before group =
     let keys = entered before.keys group.signature in
-    let index = index_of before.keys group.signature in
+    let index = key_index before.keys group.signature in
     record {
       keys = signature_kept keys index group.is_link_once;
-      sections = if is_kept group.is_link_once (entry_of keys index) then before.sections ++ group.sections else before.sections;
+      sections = if is_kept group.is_link_once (entry_named_as keys index) then before.sections ++ group.sections else before.sections;
     }
 
 abbrev pub groups_taken : DroppedSections → List SectionGroup → DroppedSections
@@ -68,8 +68,8 @@ is_dropped sections (Some section) = list_any (λ other. other == section) secti
 unfoldable pub name_noted : LinkKeys → List ℕ → LinkKeys
 name_noted keys name =
     let now = entered keys name in
-    let index = index_of keys name in
-    with_entry now index (record (entry_of now index) { is_section = true })
+    let index = key_index keys name in
+    with_entry now index (record (entry_named_as now index) { is_section = true })
 
 abbrev pub section_noted : (dropped : List ℕ) → LinkKeys → NamedSection → LinkKeys
 section_noted dropped keys section = if is_dropped dropped (Some section.index) then keys else name_noted keys section.name

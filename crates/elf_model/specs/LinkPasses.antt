@@ -2,13 +2,13 @@
 use Rattle.std.specs.Prelude.{ℕ, zero, suc, ◌==◌, ◌&&◌, not, if◌then◌else◌, Bool, true, false, List, [], ◌∷◌, ◌++◌, codes, drop, length, get_or, Some}
 use Rattle.std.specs.List.{count_by}
 use Rattle.std.proofs.Math.ListN.{set}
-use Rattle.elf_model.specs.LinkKeys.{LinkKeys, entry_of}
+use Rattle.elf_model.specs.LinkKeys.{LinkKeys, entry_named_as}
 use Rattle.elf_model.specs.LinkObjects.{LinkObject, object_taken}
 use Rattle.elf_model.specs.declared.link_states.IndexEntry.{IndexEntry}
 use Rattle.elf_model.specs.declared.link_states.KeyState.{KeyState}
 use Rattle.elf_model.specs.declared.link_states.KeyState.TheVariants.{New, Undefined, Common}
 use Rattle.elf_model.specs.declared.link_states.LinkRow.{LinkRow}
-use Rattle.elf_model.specs.declared.link_states.RowKind.TheVariants.{Member}
+use Rattle.elf_model.specs.declared.link_states.LinkRowKind.TheVariants.{Member}
 
 -- THE MEMBERS of an archive: each as an object; and whether the first symbol of a name in a member is
 -- a definition, not weak and no function
@@ -35,7 +35,7 @@ is_new _ = false
 -- the key of an entry: of a name with a default version, that without the version if no symbol has
 -- the other
 abbrev pub key_of_entry : LinkKeys → IndexEntry → ℕ
-key_of_entry keys entry = if is_new (entry_of keys entry.key).state then entry.default_key else entry.key
+key_of_entry keys entry = if is_new (entry_named_as keys entry.key).state then entry.default_key else entry.key
 
 -- a key in a state takes members: it is referenced and not defined, unless a dropped section has
 -- it; or it is a common and the member has its definition
@@ -56,7 +56,7 @@ index_name keys entry =
 -- AN ENTRY TAKES ITS MEMBER: its key takes members, and this one is not taken yet
 unfoldable pub asks_for : ArchiveMembers → LinkKeys → IndexEntry → Bool
 asks_for members keys entry =
-    let known = entry_of keys (key_of_entry keys entry) in
+    let known = entry_named_as keys (key_of_entry keys entry) in
     takes_members known.state known.is_gone (members.defines entry.member (index_name keys entry))
 
 abbrev pub is_taken : List Bool → ℕ → Bool
@@ -74,7 +74,7 @@ member_row input row keys entry =
       input = input;
       archive = Some row;
       member = Some entry.member;
-      reason = Some (record { key = key; row = (entry_of keys key).row });
+      reason = Some (record { key = key; row = (entry_named_as keys key).row });
     }
 
 -- a member taken: its row, and its symbols

@@ -7,67 +7,67 @@ use Rattle.elf_model.specs.declared.link_states.SharedDefinition.{SharedDefiniti
 use Rattle.elf_model.specs.declared.link_states.SharedKind.{SharedKind}
 use Rattle.elf_model.specs.declared.link_states.SharedKind.TheVariants.{Function, NoBits, Absolute}
 use Rattle.elf_model.specs.declared.link_states.StateChange.{StateChange}
-use Rattle.elf_model.specs.declared.link_states.StateChange.TheVariants.{Stays, Multiple, Enlarged, Becomes}
+use Rattle.elf_model.specs.declared.link_states.StateChange.TheVariants.{Stays, Multiple, Enlarged, BecomesState}
 use Rattle.elf_model.specs.declared.link_states.SymbolRole.{SymbolRole}
 use Rattle.elf_model.specs.declared.link_states.SymbolRole.TheVariants.{WeakReference, Reference, Common, WeakDefinition, Definition}
 use Rattle.elf_model.specs.declared.link_states.SymbolRole.TheVariants as role
 
 -- a weak reference, and a reference: of a key that no symbol has, or that is only weakly referenced
 abbrev pub weakly_referenced : KeyState → StateChange
-weakly_referenced New = Becomes Weak
+weakly_referenced New = BecomesState Weak
 weakly_referenced _ = Stays
 
 abbrev pub referenced : KeyState → StateChange
-referenced New = Becomes Undefined
-referenced Weak = Becomes Undefined
+referenced New = BecomesState Undefined
+referenced Weak = BecomesState Undefined
 referenced _ = Stays
 
 -- a common replaces a shared definition that is weak, a function or without bytes in its file; of
 -- these the larger size counts
 abbrev pub common_over_shared : SharedKind → (weak : Bool) → (size : ℕ) → StateChange
-common_over_shared Function weak size = Becomes (state.Common size)
-common_over_shared (NoBits other) weak size = Becomes (state.Common (max size other))
-common_over_shared _ weak size = if weak then Becomes (state.Common size) else Stays
+common_over_shared Function weak size = BecomesState (state.Common size)
+common_over_shared (NoBits other) weak size = BecomesState (state.Common (max size other))
+common_over_shared _ weak size = if weak then BecomesState (state.Common size) else Stays
 
 -- of two commons the larger counts, and the first of equal ones
 abbrev pub common_over : KeyState → (size : ℕ) → StateChange
-common_over (state.Common other) size = if nat_lt other size then Becomes (state.Common size) else Stays
+common_over (state.Common other) size = if nat_lt other size then BecomesState (state.Common size) else Stays
 common_over Defined size = Stays
 common_over (Shared symbol) size = common_over_shared symbol.kind symbol.weak size
-common_over _ size = Becomes (state.Common size)
+common_over _ size = BecomesState (state.Common size)
 
 -- a definition replaces a shared one; an absolute shared one counts as an object's
 abbrev pub weak_over_shared : SharedKind → StateChange
 weak_over_shared Absolute = Stays
-weak_over_shared _ = Becomes WeakDefined
+weak_over_shared _ = BecomesState WeakDefined
 
 abbrev pub weak_over : KeyState → StateChange
 weak_over (state.Common size) = Stays
 weak_over WeakDefined = Stays
 weak_over Defined = Stays
 weak_over (Shared symbol) = weak_over_shared symbol.kind
-weak_over _ = Becomes WeakDefined
+weak_over _ = BecomesState WeakDefined
 
 abbrev pub defined_over_shared : SharedKind → (weak : Bool) → StateChange
-defined_over_shared Absolute weak = if weak then Becomes Defined else Multiple
-defined_over_shared _ weak = Becomes Defined
+defined_over_shared Absolute weak = if weak then BecomesState Defined else Multiple
+defined_over_shared _ weak = BecomesState Defined
 
 abbrev pub defined_over : KeyState → StateChange
 defined_over Defined = Multiple
 defined_over (Shared symbol) = defined_over_shared symbol.kind symbol.weak
-defined_over _ = Becomes Defined
+defined_over _ = BecomesState Defined
 
 -- a definition of a shared library replaces a common, unless it is weak, a function or without bytes
 -- in its file
 abbrev pub shared_over_common : SharedDefinition → SharedKind → (size : ℕ) → StateChange
 shared_over_common symbol Function size = Stays
 shared_over_common symbol (NoBits other) size = if nat_lt size other then Enlarged other else Stays
-shared_over_common symbol _ size = Becomes (Shared symbol)
+shared_over_common symbol _ size = BecomesState (Shared symbol)
 
 abbrev pub shared_over : KeyState → SharedDefinition → StateChange
-shared_over New symbol = Becomes (Shared symbol)
-shared_over Weak symbol = Becomes (Shared symbol)
-shared_over Undefined symbol = Becomes (Shared symbol)
+shared_over New symbol = BecomesState (Shared symbol)
+shared_over Weak symbol = BecomesState (Shared symbol)
+shared_over Undefined symbol = BecomesState (Shared symbol)
 shared_over (state.Common size) symbol = if symbol.weak then Stays else shared_over_common symbol symbol.kind size
 shared_over _ symbol = Stays
 
@@ -81,13 +81,13 @@ state_change before Definition = defined_over before
 state_change before (role.Shared symbol) = shared_over before symbol
 
 -- the state after a change of a state
-abbrev pub state_after : KeyState → StateChange → KeyState
-state_after before Stays = before
-state_after before Multiple = before
-state_after before (Enlarged size) = state.Common size
-state_after before (Becomes made) = made
+abbrev pub key_state_after : KeyState → StateChange → KeyState
+key_state_after before Stays = before
+key_state_after before Multiple = before
+key_state_after before (Enlarged size) = state.Common size
+key_state_after before (BecomesState made) = made
 
--- a definition ends at a key that is defined: the key without the version is not changed either
+-- a definition ends at a key that is defined: the key without the version is not key_changed either
 abbrev pub is_absolute : SharedKind → Bool
 is_absolute Absolute = true
 is_absolute _ = false

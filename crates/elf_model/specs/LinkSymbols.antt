@@ -87,8 +87,8 @@ link_symbol name is_defined symbol = record {
 abbrev pub is_global : List ℕ → ℕ → Bool
 is_global file at = st_bind file at == STB_GLOBAL || st_bind file at == STB_WEAK || st_bind file at == STB_GNU_UNIQUE
 
-abbrev pub is_weak : List ℕ → ℕ → Bool
-is_weak file at = st_bind file at == STB_WEAK
+abbrev pub is_weak_use : List ℕ → ℕ → Bool
+is_weak_use file at = st_bind file at == STB_WEAK
 
 abbrev pub is_common : List ℕ → ℕ → Bool
 is_common file at = st_shndx file at == SHN_COMMON || st_shndx file at == SHN_X86_64_LCOMMON
@@ -96,9 +96,9 @@ is_common file at = st_shndx file at == SHN_COMMON || st_shndx file at == SHN_X8
 -- what a symbol of an object is
 unfoldable pub symbol_role : List ℕ → ℕ → SymbolRole
 symbol_role file at =
-    if st_shndx file at == SHN_UNDEF then (if is_weak file at then WeakReference else Reference)
+    if st_shndx file at == SHN_UNDEF then (if is_weak_use file at then WeakReference else Reference)
     else if is_common file at then Common (st_size file at)
-    else if is_weak file at then WeakDefinition
+    else if is_weak_use file at then WeakDefinition
     else Definition
 
 abbrev pub absolute_value : List ℕ → ℕ → Option ℕ
@@ -128,17 +128,17 @@ abbrev pub LTO_MARK : List ℕ
 LTO_MARK = codes "__gnu_lto_slim"
 
 -- a symbol with a name counts
-abbrev pub counted : List ℕ → ℕ → (name : List ℕ) → List ObjectSymbol
-counted file at [] = []
-counted file at (byte ∷ name) = object_symbol file at (byte ∷ name) ∷ []
+abbrev pub symbol_counts : List ℕ → ℕ → (name : List ℕ) → List ObjectSymbol
+symbol_counts file at [] = []
+symbol_counts file at (byte ∷ name) = object_symbol file at (byte ∷ name) ∷ []
 
-abbrev pub symbol_named : List ℕ → ℕ → Result (List ℕ) LinkRefusal → Result (List ObjectSymbol) LinkRefusal
-symbol_named file at (Err refusal) = Err refusal
-symbol_named file at (Ok name) = if bytes_eq name LTO_MARK then refused_at at Lto else Ok (counted file at name)
+abbrev pub symbol_called : List ℕ → ℕ → Result (List ℕ) LinkRefusal → Result (List ObjectSymbol) LinkRefusal
+symbol_called file at (Err refusal) = Err refusal
+symbol_called file at (Ok name) = if bytes_eq name LTO_MARK then refused_at at Lto else Ok (symbol_counts file at name)
 
-unfoldable pub symbol_at : (cap : ℕ) → List ℕ → (table_at at : ℕ) → Result (List ObjectSymbol) LinkRefusal
-symbol_at cap file table_at at =
-    if is_global file at then symbol_named file at (link_name cap (strings_of file table_at) (st_name file at) at) else Ok []
+unfoldable pub link_symbol_at : (cap : ℕ) → List ℕ → (table_at at : ℕ) → Result (List ObjectSymbol) LinkRefusal
+link_symbol_at cap file table_at at =
+    if is_global file at then symbol_called file at (link_name cap (strings_of file table_at) (st_name file at) at) else Ok []
 
 -- results of parts, up to the first refusal
 abbrev pub followed : {A : Type 0} → List A → Result (List A) LinkRefusal → Result (List A) LinkRefusal
@@ -153,7 +153,7 @@ and_then (Ok first) rest = followed first rest
 unfoldable pub symbols_from : (cap : ℕ) → List ℕ → (table_at index count : ℕ) → Result (List ObjectSymbol) LinkRefusal
 symbols_from cap file table_at index zero = Ok []
 symbols_from cap file table_at index (suc count) =
-    and_then (symbol_at cap file table_at (entry_at file table_at SYMBOL_SIZE index)) (symbols_from cap file table_at (suc index) count)
+    and_then (link_symbol_at cap file table_at (entry_at file table_at SYMBOL_SIZE index)) (symbols_from cap file table_at (suc index) count)
 
 -- THE SYMBOLS OF AN OBJECT: of its first symbol table, after the local ones
 abbrev pub symbols_of : (cap : ℕ) → List ℕ → (table_at : ℕ) → Result (List ObjectSymbol) LinkRefusal
@@ -208,8 +208,8 @@ signature_by cap file at (Ok []) =
 
 unfoldable pub signature_of : (cap : ℕ) → List ℕ → (at : ℕ) → Result (List ℕ) LinkRefusal
 signature_of cap file at =
-    let symbol_at = entry_at file (linked_at file at) SYMBOL_SIZE (sh_info file at) in
-    signature_by cap file symbol_at (link_name cap (strings_of file (linked_at file at)) (st_name file symbol_at) symbol_at)
+    let link_symbol_at = entry_at file (linked_at file at) SYMBOL_SIZE (sh_info file at) in
+    signature_by cap file link_symbol_at (link_name cap (strings_of file (linked_at file at)) (st_name file link_symbol_at) link_symbol_at)
 
 unfoldable pub group_in : (cap : ℕ) → List ℕ → (at : ℕ) → Result (List SectionGroup) LinkRefusal
 group_in cap file at = elim (first_refusal (group_checks file at)) [
@@ -299,7 +299,7 @@ object_of file headers cap = elim (object_refusal file headers) [
 -- looked at
 abbrev pub is_data_definition : List ℕ → ℕ → Bool
 is_data_definition file at =
-    not (is_weak file at) && not (st_shndx file at == SHN_UNDEF) && not (is_common file at)
+    not (is_weak_use file at) && not (st_shndx file at == SHN_UNDEF) && not (is_common file at)
     && not (st_type file at == STT_FUNC) && not (st_type file at == STT_GNU_IFUNC)
 
 abbrev pub is_that : Result (List ℕ) LinkRefusal → List ℕ → Bool

@@ -69,7 +69,7 @@ pub enum StateChange {
     /// It becomes a common of this many bytes, and the row that made it stays.
     Enlarged(u64),
     /// It becomes this.
-    Becomes(KeyState),
+    BecomesState(KeyState),
 }
 
 /// How a symbol of a file uses its key.
@@ -139,7 +139,7 @@ pub struct FurtherDefinition {
 
 /// The kind of a row of a link.
 #[derive(Clone, Copy)]
-pub enum RowKind {
+pub enum LinkRowKind {
     /// An object.
     Object,
     /// A shared library.
@@ -171,7 +171,7 @@ pub struct RowReason {
 #[derive(Clone, Copy)]
 pub struct LinkRow {
     /// Its kind.
-    pub kind: RowKind,
+    pub kind: LinkRowKind,
     /// The index of the input among those of the link.
     pub input: u32,
     /// For a member, the row of its archive.
@@ -192,7 +192,7 @@ pub enum LinkCause {
     /// The machine is not x86-64.
     Machine,
     /// The file is a text that is no linker script of the words that are known, or a longer one.
-    Script,
+    ScriptFault,
     /// The object has intermediate code instead of machine code.
     Lto,
     /// The archive has members and no index.

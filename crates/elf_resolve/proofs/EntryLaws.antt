@@ -4,16 +4,16 @@ use Rattle.std.specs.Prelude.{Option, None, Some, bytes_eq, ◌&&◌, if◌then�
 use Rattle.std.proofs.lemmas.List.{get_or-set_other, get_or-set_same, get_or_past, length-set}
 use Rattle.std.proofs.lemmas.List.Quantifiers.{position-Some}
 use Rattle.std.proofs.lemmas.Slice.Eq.{bytes_eq-Decides}
-use Rattle.elf_model.specs.LinkKeys.{LinkKeys, LinkSymbol, change_of, changed, default_used, entered, entered_at, entry_at, entry_named, first_row, index_of, index_or, is_shared, key_in, key_used, name_used, new_key, prepared, references_by, removed, symbol_taken, symbols_taken, used}
-use Rattle.elf_model.specs.LinkSteps.{ends_at, state_after, state_change}
+use Rattle.elf_model.specs.LinkKeys.{LinkKeys, LinkSymbol, key_change, key_changed, default_used, entered, entered_at, key_entry, entry_named, first_row, key_index, index_or, is_shared, key_in, key_used, name_used, new_key, prepared, references_by, removed, symbol_taken, symbols_taken, used}
+use Rattle.elf_model.specs.LinkSteps.{ends_at, key_state_after, state_change}
 use Rattle.elf_model.specs.declared.link_states.KeyEntry.{KeyEntry}
 use Rattle.elf_model.specs.declared.link_states.StateChange.{StateChange}
-use Rattle.elf_model.specs.declared.link_states.StateChange.TheVariants.{Stays, Multiple, Enlarged, Becomes}
+use Rattle.elf_model.specs.declared.link_states.StateChange.TheVariants.{Stays, Multiple, Enlarged, BecomesState}
 use Rattle.elf_model.specs.declared.link_states.SymbolRole.{SymbolRole}
 use Rattle.elf_model.specs.declared.link_states.SymbolRole.TheVariants.{WeakReference, Reference, Common, WeakDefinition, Definition}
 use Rattle.elf_model.specs.declared.link_states.SymbolRole.TheVariants as role
 use Rattle.elf_model.specs.declared.link_states.SymbolUse.{SymbolUse}
-use Rattle.elf_resolve.specs.KeyStates.{ArePlain, IsOwn, IsPlain, after, after_all, roles_of}
+use Rattle.elf_resolve.specs.KeyStates.{ArePlain, IsOwn, IsPlainState, after, after_all, roles_of}
 use Rattle.elf_resolve.proofs.ListLaws.{position_push, position_push_new, position_push_other}
 
 -- a new entry after others is what the lack of one is
@@ -27,19 +27,19 @@ push_default (x ∷ xs) d (suc i) = push_default xs d i
 entered_by : (keys : LinkKeys) (name q : List ℕ) → length keys.entries ≤ length keys.names → (place : Option ℕ) → key_in keys.names name ≡ place
     → (found : Option ℕ) → key_in keys.names q ≡ found → (same : Bool) → bytes_eq q name ≡ same → entry_named (entered_at place keys name) q ≡ entry_named keys q
 unfolding entry_named
-entered_by keys name q paired (Some i) is found there same is_same = refl
-entered_by keys name q paired None is (Some j) there same is_same =
-    ap (λ o. entry_at o (entered_at None keys name)) (position_push (bytes_eq q) keys.names name j there)
+entered_by keys name q paired (Some i) is found there same is_same_entry = refl
+entered_by keys name q paired None is (Some j) there same is_same_entry =
+    ap (λ o. key_entry o (entered_at None keys name)) (position_push (bytes_eq q) keys.names name j there)
     ∙ push_default keys.entries new_key j
-    ∙ sym (ap (λ o. entry_at o keys) there)
-entered_by keys name q paired None is None there true is_same =
-    ap (λ o. entry_at o (entered_at None keys name)) (position_push_new (bytes_eq q) keys.names name there is_same)
+    ∙ sym (ap (λ o. key_entry o keys) there)
+entered_by keys name q paired None is None there true is_same_entry =
+    ap (λ o. key_entry o (entered_at None keys name)) (position_push_new (bytes_eq q) keys.names name there is_same_entry)
     ∙ push_default keys.entries new_key (length keys.names)
     ∙ get_or_past keys.entries (length keys.names) new_key paired
-    ∙ sym (ap (λ o. entry_at o keys) there)
-entered_by keys name q paired None is None there false is_same =
-    ap (λ o. entry_at o (entered_at None keys name)) (position_push_other (bytes_eq q) keys.names name is_same ∙ there)
-    ∙ sym (ap (λ o. entry_at o keys) there)
+    ∙ sym (ap (λ o. key_entry o keys) there)
+entered_by keys name q paired None is None there false is_same_entry =
+    ap (λ o. key_entry o (entered_at None keys name)) (position_push_other (bytes_eq q) keys.names name is_same_entry ∙ there)
+    ∙ sym (ap (λ o. key_entry o keys) there)
 
 pub entered_entry : (keys : LinkKeys) (name q : List ℕ) → length keys.entries ≤ length keys.names → entry_named (entered keys name) q ≡ entry_named keys q
 unfolding entered
@@ -50,8 +50,8 @@ placed_by : (keys : LinkKeys) (name : List ℕ) (place : Option ℕ) → key_in 
 placed_by keys name (Some i) is = is
 placed_by keys name None is = position_push_new (bytes_eq name) keys.names name is ((bytes_eq-Decides name name).1 refl)
 
-placed : (keys : LinkKeys) (name : List ℕ) → key_in (entered keys name).names name ≡ Some (index_of keys name)
-unfolding entered index_of
+placed : (keys : LinkKeys) (name : List ℕ) → key_in (entered keys name).names name ≡ Some (key_index keys name)
+unfolding entered key_index
 placed keys name = placed_by keys name (key_in keys.names name) refl
 
 -- two names of one index are one
@@ -68,20 +68,20 @@ used_by : (keys : LinkKeys) (name q : List ℕ) (i : ℕ) (symbol : SymbolUse) (
     → (found : Option ℕ) → key_in keys.names q ≡ found → (same : Bool) → bytes_eq q name ≡ same
     → entry_named (key_used keys i symbol row) q ≡ (if same then used (entry_named keys q) symbol row else entry_named keys q)
 unfolding entry_named key_used
-used_by keys name q i symbol row within is found there true is_same =
-    let one : q ≡ name = (bytes_eq-Decides q name).0 is_same in
+used_by keys name q i symbol row within is found there true is_same_entry =
+    let one : q ≡ name = (bytes_eq-Decides q name).0 is_same_entry in
     let place : key_in keys.names q ≡ Some i = ap (λ n. key_in keys.names n) one ∙ is in
-    ap (λ o. entry_at o (key_used keys i symbol row)) place
+    ap (λ o. key_entry o (key_used keys i symbol row)) place
     ∙ get_or-set_same keys.entries i (used (get_or keys.entries i new_key) symbol row) new_key within
-    ∙ sym (ap (λ o. used (entry_at o keys) symbol row) place)
-used_by keys name q i symbol row within is None there false is_same =
-    ap (λ o. entry_at o (key_used keys i symbol row)) there
-    ∙ sym (ap (λ o. entry_at o keys) there)
-used_by keys name q i symbol row within is (Some j) there false is_same =
-    ap (λ o. entry_at o (key_used keys i symbol row)) there
+    ∙ sym (ap (λ o. used (key_entry o keys) symbol row) place)
+used_by keys name q i symbol row within is None there false is_same_entry =
+    ap (λ o. key_entry o (key_used keys i symbol row)) there
+    ∙ sym (ap (λ o. key_entry o keys) there)
+used_by keys name q i symbol row within is (Some j) there false is_same_entry =
+    ap (λ o. key_entry o (key_used keys i symbol row)) there
     ∙ get_or-set_other keys.entries i j (used (get_or keys.entries i new_key) symbol row) new_key
-    (λ at_one. apart (bytes_eq q name) is_same ((bytes_eq-Decides q name).1 (same_place keys.names q name i (there ∙ ap Some at_one) is)))
-    ∙ sym (ap (λ o. entry_at o keys) there)
+    (λ at_one. apart (bytes_eq q name) is_same_entry ((bytes_eq-Decides q name).1 (same_place keys.names q name i (there ∙ ap Some at_one) is)))
+    ∙ sym (ap (λ o. key_entry o keys) there)
 
 -- there is an entry for each name, after a symbol too
 entered_paired : (keys : LinkKeys) (name : List ℕ) (place : Option ℕ) → length keys.entries ≡ length keys.names → length (entered_at place keys name).entries ≡ length (entered_at place keys name).names
@@ -95,7 +95,7 @@ entries_entered keys name paired = entered_paired keys name (key_in keys.names n
 pub name_paired : (row : Option ℕ) (keys : LinkKeys) (name : List ℕ) (symbol : SymbolUse) → length keys.entries ≡ length keys.names
     → length (name_used row keys name symbol).entries ≡ length (name_used row keys name symbol).names
 unfolding name_used key_used
-name_paired row keys name symbol paired = length-set (entered keys name).entries (index_of keys name) _ ∙ entries_entered keys name paired
+name_paired row keys name symbol paired = length-set (entered keys name).entries (key_index keys name) _ ∙ entries_entered keys name paired
 
 -- THE ENTRY OF A NAME after a name is used: its own is, and the others are what they were
 pub name_entry : (row : Option ℕ) (keys : LinkKeys) (name q : List ℕ) (symbol : SymbolUse) → length keys.entries ≡ length keys.names
@@ -103,9 +103,9 @@ pub name_entry : (row : Option ℕ) (keys : LinkKeys) (name q : List ℕ) (symbo
 unfolding name_used
 name_entry row keys name q symbol paired =
     let there = placed keys name in
-    let within : index_of keys name < length (entered keys name).entries =
-    rw (entries_entered keys name paired) ((position-Some (bytes_eq name) (entered keys name).names (index_of keys name) [] there).0) in
-    used_by (entered keys name) name q (index_of keys name) symbol row within there (key_in (entered keys name).names q) refl (bytes_eq q name) refl
+    let within : key_index keys name < length (entered keys name).entries =
+    rw (entries_entered keys name paired) ((position-Some (bytes_eq name) (entered keys name).names (key_index keys name) [] there).0) in
+    used_by (entered keys name) name q (key_index keys name) symbol row within there (key_in (entered keys name).names q) refl (bytes_eq q name) refl
     ∙ ap (λ e. if bytes_eq q name then used e symbol row else e) (entered_entry keys name q (omega (arith, paired)))
 
 -- the state of an entry that is used by an own symbol of default visibility
@@ -113,11 +113,11 @@ pub prepared_plain : (entry : KeyEntry) (restricted : Bool) → restricted ≡ f
 prepared_plain entry true is = cc
 prepared_plain entry false is = refl
 
-changed_state : (entry : KeyEntry) (symbol : SymbolUse) (row : Option ℕ) (change : StateChange) → (changed entry symbol row change).state ≡ state_after entry.state change
+changed_state : (entry : KeyEntry) (symbol : SymbolUse) (row : Option ℕ) (change : StateChange) → (key_changed entry symbol row change).state ≡ key_state_after entry.state change
 changed_state entry symbol row Stays = refl
 changed_state entry symbol row Multiple = refl
 changed_state entry symbol row (Enlarged size) = refl
-changed_state entry symbol row (Becomes made) = refl
+changed_state entry symbol row (BecomesState made) = refl
 
 either_state : (which : Bool) (a b : KeyEntry) → b.state ≡ a.state → (if which then a else b).state ≡ a.state
 either_state true a b same = refl
@@ -137,16 +137,16 @@ unless_both true true x is = cc
 unless_both true false x is = refl
 unless_both false b x is = refl
 
-pub change_own : (entry : KeyEntry) (symbol : SymbolUse) → IsOwn symbol.role → change_of entry symbol ≡ state_change entry.state symbol.role
+pub change_own : (entry : KeyEntry) (symbol : SymbolUse) → IsOwn symbol.role → key_change entry symbol ≡ state_change entry.state symbol.role
 change_own entry symbol own = unless_both entry.is_restricted (is_shared symbol.role) (state_change entry.state symbol.role) (not_shared symbol.role own)
 
 pub used_state : (entry : KeyEntry) (symbol : SymbolUse) (row : Option ℕ) → symbol.restricted ≡ false → IsOwn symbol.role → (used entry symbol row).state ≡ after entry.state symbol.role
 unfolding used
 used_state entry symbol row unrestricted own =
     let before = prepared entry symbol in
-    references_state symbol symbol.role row (changed before symbol row (change_of before symbol))
-    ∙ changed_state before symbol row (change_of before symbol)
-    ∙ ap (λ c. state_after before.state c) (change_own before symbol own)
+    references_state symbol symbol.role row (key_changed before symbol row (key_change before symbol))
+    ∙ changed_state before symbol row (key_change before symbol)
+    ∙ ap (λ c. key_state_after before.state c) (change_own before symbol own)
     ∙ ap (λ (e : KeyEntry). after e.state symbol.role) (prepared_plain entry symbol.restricted unrestricted)
 
 -- a symbol of one name
@@ -155,7 +155,7 @@ unfolding symbol_taken
 one_name row keys s one = ap (λ d. default_used row (name_used row keys s.name s.symbol) d s.symbol (ends_at (prepared (entry_named keys s.name) s.symbol).state s.symbol.role)) one
 
 -- THE STATE OF A NAME after the symbols of a file is what the symbols of that name make of it
-state_by : (row : Option ℕ) (entry : KeyEntry) (s : LinkSymbol) (roles : List SymbolRole) (same : Bool) → IsPlain s
+state_by : (row : Option ℕ) (entry : KeyEntry) (s : LinkSymbol) (roles : List SymbolRole) (same : Bool) → IsPlainState s
     → after_all (if same then used entry s.symbol row else entry).state roles ≡ after_all entry.state (if same then s.symbol.role ∷ roles else roles)
 state_by row entry s roles true plain = ap (λ t. after_all t roles) (used_state entry s.symbol row plain.unrestricted plain.own)
 state_by row entry s roles false plain = refl

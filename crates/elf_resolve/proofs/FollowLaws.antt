@@ -2,10 +2,10 @@
 -- nothing new is asked for.
 use Rattle.std.proofs.Common.{◌≡◌, ℕ, zero, suc, ◌+◌, ◌≤◌, Bool, true, false, List, [], ◌∷◌, ◌⊎◌, inl, inr, get_or, set, map, refl, sym, ap, ◌∙◌, arith}
 use Rattle.std.specs.Prelude.{Option, None, Some, ◌&&◌, ◌||◌, not, nat_lt, if◌then◌else◌}
-use Rattle.elf_model.specs.LinkKeys.{LinkKeys, LinkSymbol, asks_after, change_of, changed, default_used, entered, entered_at, entry_named, entry_of, first_row, index_of, key_in, key_used, name_used, new_key, prepared, references_by, symbol_taken, symbols_taken, used, with_entry}
+use Rattle.elf_model.specs.LinkKeys.{LinkKeys, LinkSymbol, asks_after, key_change, key_changed, default_used, entered, entered_at, entry_named, entry_named_as, first_row, key_index, key_in, key_used, name_used, new_key, prepared, references_by, symbol_taken, symbols_taken, used, with_entry}
 use Rattle.elf_model.specs.LinkObjects.{DroppedSections, LinkObject, NamedSection, ObjectSymbol, SectionGroup, dropped_symbol, group_taken, groups_taken, is_dropped, kept, name_noted, object_taken, reference_role, section_noted, sections_noted, signature_kept, symbol_without}
 use Rattle.elf_model.specs.LinkPasses.{is_new}
-use Rattle.elf_model.specs.LinkSteps.{common_over, common_over_shared, defined_over, defined_over_shared, ends_at, state_after, state_change, weak_over, weak_over_shared}
+use Rattle.elf_model.specs.LinkSteps.{common_over, common_over_shared, defined_over, defined_over_shared, ends_at, key_state_after, state_change, weak_over, weak_over_shared}
 use Rattle.elf_model.specs.declared.link_states.KeyEntry.{KeyEntry}
 use Rattle.elf_model.specs.declared.link_states.KeyState.{KeyState}
 use Rattle.elf_model.specs.declared.link_states.KeyState.TheVariants.{New, Weak, Undefined, WeakDefined, Defined, Shared}
@@ -13,7 +13,7 @@ use Rattle.elf_model.specs.declared.link_states.KeyState.TheVariants as state
 use Rattle.elf_model.specs.declared.link_states.SharedKind.{SharedKind}
 use Rattle.elf_model.specs.declared.link_states.SharedKind.TheVariants.{Function, NoBits, Absolute}
 use Rattle.elf_model.specs.declared.link_states.StateChange.{StateChange}
-use Rattle.elf_model.specs.declared.link_states.StateChange.TheVariants.{Stays, Multiple, Enlarged, Becomes}
+use Rattle.elf_model.specs.declared.link_states.StateChange.TheVariants.{Stays, Multiple, Enlarged, BecomesState}
 use Rattle.elf_model.specs.declared.link_states.SymbolRole.{SymbolRole}
 use Rattle.elf_model.specs.declared.link_states.SymbolRole.TheVariants.{WeakReference, Reference, Common, WeakDefinition, Definition}
 use Rattle.elf_model.specs.declared.link_states.SymbolRole.TheVariants as role
@@ -25,7 +25,7 @@ use Rattle.elf_resolve.proofs.KeyLaws.{references_asked}
 
 -- whether a key has been asked for after a change of its state
 abbrev asked_by : KeyState → (is_asked : Bool) → StateChange → Bool
-asked_by before is_asked (Becomes made) = is_asked || asks_after before made
+asked_by before is_asked (BecomesState made) = is_asked || asks_after before made
 asked_by before is_asked _ = is_asked
 
 either_gone : (which : Bool) (a b : KeyEntry) → b.is_gone ≡ a.is_gone → (if which then a else b).is_gone ≡ a.is_gone
@@ -40,9 +40,9 @@ record Moves (before : KeyState) (was_asked : Bool) (after : KeyState) (is_asked
 
 -- a change that makes no key new, weak or undefined
 abbrev IsDefining : StateChange → Type 0
-IsDefining (Becomes New) = ⊥
-IsDefining (Becomes Weak) = ⊥
-IsDefining (Becomes Undefined) = ⊥
+IsDefining (BecomesState New) = ⊥
+IsDefining (BecomesState Weak) = ⊥
+IsDefining (BecomesState Undefined) = ⊥
 IsDefining _ = Unit {0}
 
 defining_either : (b : Bool) (x y : StateChange) → IsDefining x → IsDefining y → IsDefining (if b then x else y)
@@ -55,10 +55,10 @@ apart b first second = cc
 shared_common_defines : (kind : SharedKind) (weak : Bool) (size : ℕ) → IsDefining (common_over_shared kind weak size)
 shared_common_defines Function weak size = tt
 shared_common_defines (NoBits other) weak size = tt
-shared_common_defines kind weak size = defining_either weak (Becomes (state.Common size)) Stays tt tt
+shared_common_defines kind weak size = defining_either weak (BecomesState (state.Common size)) Stays tt tt
 
 common_defines : (s : KeyState) (size : ℕ) → IsDefining (common_over s size)
-common_defines (state.Common other) size = defining_either (nat_lt other size) (Becomes (state.Common size)) Stays tt tt
+common_defines (state.Common other) size = defining_either (nat_lt other size) (BecomesState (state.Common size)) Stays tt tt
 common_defines (Shared symbol) size = shared_common_defines symbol.kind symbol.weak size
 common_defines s size = tt
 
@@ -71,7 +71,7 @@ weak_defines (Shared symbol) = shared_weak_defines symbol.kind
 weak_defines s = tt
 
 shared_defined_defines : (kind : SharedKind) (weak : Bool) → IsDefining (defined_over_shared kind weak)
-shared_defined_defines Absolute weak = defining_either weak (Becomes Defined) Multiple tt tt
+shared_defined_defines Absolute weak = defining_either weak (BecomesState Defined) Multiple tt tt
 shared_defined_defines kind weak = tt
 
 defined_defines : (s : KeyState) → IsDefining (defined_over s)
@@ -89,17 +89,17 @@ moves_away s after asked is_asked not_undefined not_unasked not_new = record {
   known = λ k. absurd (apart (is_unasked after) not_unasked k);
 }
 
-moves_defining : (s : KeyState) (asked : Bool) (c : StateChange) → IsDefining c → (is_unasked s ≡ true → asked ≡ false) → Moves s asked (state_after s c) (asked_by s asked c)
+moves_defining : (s : KeyState) (asked : Bool) (c : StateChange) → IsDefining c → (is_unasked s ≡ true → asked ≡ false) → Moves s asked (key_state_after s c) (asked_by s asked c)
 moves_defining s asked Stays defines known = moves_stays s asked known
 moves_defining s asked Multiple defines known = moves_stays s asked known
 moves_defining s asked (Enlarged size) defines known = moves_away s (state.Common size) asked asked (λ u. cc) refl refl
-moves_defining s asked (Becomes New) defines known = absurd defines
-moves_defining s asked (Becomes Weak) defines known = absurd defines
-moves_defining s asked (Becomes Undefined) defines known = absurd defines
-moves_defining s asked (Becomes (state.Common size)) defines known = moves_away s (state.Common size) asked (asked || asks_after s (state.Common size)) (λ u. cc) refl refl
-moves_defining s asked (Becomes WeakDefined) defines known = moves_away s WeakDefined asked (asked || false) (λ u. cc) refl refl
-moves_defining s asked (Becomes Defined) defines known = moves_away s Defined asked (asked || false) (λ u. cc) refl refl
-moves_defining s asked (Becomes (Shared symbol)) defines known = moves_away s (Shared symbol) asked (asked || false) (λ u. cc) refl refl
+moves_defining s asked (BecomesState New) defines known = absurd defines
+moves_defining s asked (BecomesState Weak) defines known = absurd defines
+moves_defining s asked (BecomesState Undefined) defines known = absurd defines
+moves_defining s asked (BecomesState (state.Common size)) defines known = moves_away s (state.Common size) asked (asked || asks_after s (state.Common size)) (λ u. cc) refl refl
+moves_defining s asked (BecomesState WeakDefined) defines known = moves_away s WeakDefined asked (asked || false) (λ u. cc) refl refl
+moves_defining s asked (BecomesState Defined) defines known = moves_away s Defined asked (asked || false) (λ u. cc) refl refl
+moves_defining s asked (BecomesState (Shared symbol)) defines known = moves_away s (Shared symbol) asked (asked || false) (λ u. cc) refl refl
 
 or_right : (a : Bool) → (a || true) ≡ true
 or_right true = refl
@@ -119,7 +119,7 @@ moves_asked s asked unasked known = record {
 moves_weakly : (s : KeyState) (asked : Bool) → is_unasked s ≡ true → (is_unasked s ≡ true → asked ≡ false) → Moves s asked Weak (asked || false)
 moves_weakly s asked unasked known = record { undefined = λ u q. cc; new = λ n. cc; known = λ k. or_neither asked (known unasked) }
 
-moves_by : (s : KeyState) (asked : Bool) (r : SymbolRole) → IsOwn r → (is_unasked s ≡ true → asked ≡ false) → Moves s asked (state_after s (state_change s r)) (asked_by s asked (state_change s r))
+moves_by : (s : KeyState) (asked : Bool) (r : SymbolRole) → IsOwn r → (is_unasked s ≡ true → asked ≡ false) → Moves s asked (key_state_after s (state_change s r)) (asked_by s asked (state_change s r))
 moves_by New asked WeakReference own known = moves_weakly New asked refl known
 moves_by s asked WeakReference own known = moves_stays s asked known
 moves_by New asked Reference own known = moves_asked New asked refl known
@@ -131,17 +131,17 @@ moves_by s asked Definition own known = moves_defining s asked (defined_over s) 
 moves_by s asked (role.Shared symbol) own known = absurd own
 
 -- AN ENTRY USED by a symbol of an object, of default visibility
-changed_is_asked : (entry : KeyEntry) (symbol : SymbolUse) (row : Option ℕ) (c : StateChange) → (changed entry symbol row c).is_asked ≡ asked_by entry.state entry.is_asked c
+changed_is_asked : (entry : KeyEntry) (symbol : SymbolUse) (row : Option ℕ) (c : StateChange) → (key_changed entry symbol row c).is_asked ≡ asked_by entry.state entry.is_asked c
 changed_is_asked entry symbol row Stays = refl
 changed_is_asked entry symbol row Multiple = refl
 changed_is_asked entry symbol row (Enlarged size) = refl
-changed_is_asked entry symbol row (Becomes made) = refl
+changed_is_asked entry symbol row (BecomesState made) = refl
 
-changed_gone : (entry : KeyEntry) (symbol : SymbolUse) (row : Option ℕ) (c : StateChange) → (changed entry symbol row c).is_gone ≡ entry.is_gone
+changed_gone : (entry : KeyEntry) (symbol : SymbolUse) (row : Option ℕ) (c : StateChange) → (key_changed entry symbol row c).is_gone ≡ entry.is_gone
 changed_gone entry symbol row Stays = refl
 changed_gone entry symbol row Multiple = refl
 changed_gone entry symbol row (Enlarged size) = refl
-changed_gone entry symbol row (Becomes made) = refl
+changed_gone entry symbol row (BecomesState made) = refl
 
 references_gone : (symbol : SymbolUse) (r : SymbolRole) (row : Option ℕ) (entry : KeyEntry) → (references_by symbol r row entry).is_gone ≡ entry.is_gone
 references_gone symbol Reference row entry = either_gone symbol.dropped entry (record entry { reference = first_row entry.reference row }) refl
@@ -158,11 +158,11 @@ unfolding used
 used_moves entry symbol row unrestricted own known =
     let before = prepared entry symbol in
     let same : before ≡ entry = prepared_plain entry symbol.restricted unrestricted in
-    let change : change_of before symbol ≡ state_change entry.state symbol.role = change_own before symbol own ∙ ap (λ (e : KeyEntry). state_change e.state symbol.role) same in
-    let state_is : (used entry symbol row).state ≡ state_after entry.state (state_change entry.state symbol.role) = used_state entry symbol row unrestricted own in
+    let change : key_change before symbol ≡ state_change entry.state symbol.role = change_own before symbol own ∙ ap (λ (e : KeyEntry). state_change e.state symbol.role) same in
+    let state_is : (used entry symbol row).state ≡ key_state_after entry.state (state_change entry.state symbol.role) = used_state entry symbol row unrestricted own in
     let asked_is : (used entry symbol row).is_asked ≡ asked_by entry.state entry.is_asked (state_change entry.state symbol.role) =
-    references_asked symbol symbol.role row (changed before symbol row (change_of before symbol))
-    ∙ changed_is_asked before symbol row (change_of before symbol)
+    references_asked symbol symbol.role row (key_changed before symbol row (key_change before symbol))
+    ∙ changed_is_asked before symbol row (key_change before symbol)
     ∙ ap (λ c. asked_by before.state before.is_asked c) change
     ∙ ap (λ (e : KeyEntry). asked_by e.state e.is_asked (state_change entry.state symbol.role)) same in
     rw (state_is, asked_is) (moves_by entry.state entry.is_asked symbol.role own known)
@@ -172,8 +172,8 @@ unfolding used
 used_gone entry symbol row unrestricted gone =
     let before = prepared entry symbol in
     or_left _ symbol.dropped
-    (references_gone symbol symbol.role row (changed before symbol row (change_of before symbol))
-    ∙ changed_gone before symbol row (change_of before symbol)
+    (references_gone symbol symbol.role row (key_changed before symbol row (key_change before symbol))
+    ∙ changed_gone before symbol row (key_change before symbol)
     ∙ ap (λ (e : KeyEntry). e.is_gone) (prepared_plain entry symbol.restricted unrestricted)
     ∙ gone)
 
@@ -205,7 +205,7 @@ record Alike (a b : KeyEntry) : Type 0 where
 alike_same : (a b : KeyEntry) → b ≡ a → Alike a b
 alike_same a b same = record { same_state = ap (λ (e : KeyEntry). e.state) same; same_asked = ap (λ (e : KeyEntry). e.is_asked) same; same_gone = ap (λ (e : KeyEntry). e.is_gone) same }
 
-follows_alike : (before after : LinkKeys) → after.asked ≡ before.asked → ((i : ℕ) → Alike (entry_of before i) (entry_of after i)) → AskedAreKnown before → Follows before after
+follows_alike : (before after : LinkKeys) → after.asked ≡ before.asked → ((i : ℕ) → Alike (entry_named_as before i) (entry_named_as after i)) → AskedAreKnown before → Follows before after
 follows_alike before after same alike known = record {
   grows = omega (arith, same);
   quiet = λ again. record {
@@ -228,7 +228,7 @@ get_or_set (y ∷ xs) (suc i) x (suc j) d = at_next (get_or_set xs i x j d) wher
   at_next (inr (at, is)) = inr (ap suc at, is)
 
 -- a name entered
-entered_alike : (keys : LinkKeys) (name : List ℕ) (place : Option ℕ) (i : ℕ) → entry_of (entered_at place keys name) i ≡ entry_of keys i
+entered_alike : (keys : LinkKeys) (name : List ℕ) (place : Option ℕ) (i : ℕ) → entry_named_as (entered_at place keys name) i ≡ entry_named_as keys i
 entered_alike keys name (Some found) i = refl
 entered_alike keys name None i = push_default keys.entries new_key i
 
@@ -240,15 +240,15 @@ pub follows_entered : (keys : LinkKeys) (name : List ℕ) → AskedAreKnown keys
 unfolding entered
 follows_entered keys name known =
     follows_alike keys (entered keys name) (entered_asked keys name (key_in keys.names name))
-    (λ i. alike_same (entry_of keys i) (entry_of (entered keys name) i) (entered_alike keys name (key_in keys.names name) i)) known
+    (λ i. alike_same (entry_named_as keys i) (entry_named_as (entered keys name) i) (entered_alike keys name (key_in keys.names name) i)) known
 
 -- another entry that is alike
-with_alike : (keys : LinkKeys) (index : ℕ) (entry : KeyEntry) (j : ℕ) → Alike (entry_of keys index) entry
-    → (entry_of (with_entry keys index entry) j ≡ entry_of keys j) ⊎ ((j ≡ index) × (entry_of (with_entry keys index entry) j ≡ entry)) → Alike (entry_of keys j) (entry_of (with_entry keys index entry) j)
-with_alike keys index entry j alike (inl same) = alike_same (entry_of keys j) (entry_of (with_entry keys index entry) j) same
+with_alike : (keys : LinkKeys) (index : ℕ) (entry : KeyEntry) (j : ℕ) → Alike (entry_named_as keys index) entry
+    → (entry_named_as (with_entry keys index entry) j ≡ entry_named_as keys j) ⊎ ((j ≡ index) × (entry_named_as (with_entry keys index entry) j ≡ entry)) → Alike (entry_named_as keys j) (entry_named_as (with_entry keys index entry) j)
+with_alike keys index entry j alike (inl same) = alike_same (entry_named_as keys j) (entry_named_as (with_entry keys index entry) j) same
 with_alike keys index entry j alike (inr (at, is)) = rw (is, at) alike
 
-follows_with : (keys : LinkKeys) (index : ℕ) (entry : KeyEntry) → Alike (entry_of keys index) entry → AskedAreKnown keys → Follows keys (with_entry keys index entry)
+follows_with : (keys : LinkKeys) (index : ℕ) (entry : KeyEntry) → Alike (entry_named_as keys index) entry → AskedAreKnown keys → Follows keys (with_entry keys index entry)
 follows_with keys index entry alike known =
     follows_alike keys (with_entry keys index entry) refl (λ j. with_alike keys index entry j alike (get_or_set keys.entries index entry j new_key)) known
 
@@ -268,26 +268,26 @@ not_new_asked false was is asked = cc
 
 module _ (keys : LinkKeys) (i : ℕ) (symbol : SymbolUse) (row : Option ℕ) (unrestricted : symbol.restricted ≡ false) (own : IsOwn symbol.role) (known : AskedAreKnown keys) where
   abbrev Either : (j : ℕ) → KeyEntry → Type 0
-  Either j after = (after ≡ entry_of keys j) ⊎ ((j ≡ i) × (after ≡ used (entry_of keys i) symbol row))
+  Either j after = (after ≡ entry_named_as keys j) ⊎ ((j ≡ i) × (after ≡ used (entry_named_as keys i) symbol row))
 
-  either_of : (j : ℕ) → Either j (entry_of (key_used keys i symbol row) j)
+  either_of : (j : ℕ) → Either j (entry_named_as (key_used keys i symbol row) j)
   unfolding key_used
-  either_of j = get_or_set keys.entries i (used (entry_of keys i) symbol row) j new_key
+  either_of j = get_or_set keys.entries i (used (entry_named_as keys i) symbol row) j new_key
 
-  moves_here : (let after = used (entry_of keys i) symbol row in Moves (entry_of keys i).state (entry_of keys i).is_asked after.state after.is_asked)
-  moves_here = used_moves (entry_of keys i) symbol row unrestricted own (known i)
+  moves_here : (let after = used (entry_named_as keys i) symbol row in Moves (entry_named_as keys i).state (entry_named_as keys i).is_asked after.state after.is_asked)
+  moves_here = used_moves (entry_named_as keys i) symbol row unrestricted own (known i)
 
-  quiet_undefined : (j : ℕ) (after : KeyEntry) → Either j after → ((used (entry_of keys i) symbol row).is_asked ≡ true → (entry_of keys i).is_asked ≡ true) → after.state ≡ Undefined → (entry_of keys j).state ≡ Undefined
+  quiet_undefined : (j : ℕ) (after : KeyEntry) → Either j after → ((used (entry_named_as keys i) symbol row).is_asked ≡ true → (entry_named_as keys i).is_asked ≡ true) → after.state ≡ Undefined → (entry_named_as keys j).state ≡ Undefined
   quiet_undefined j after (inl same) asked u = ap (λ (e : KeyEntry). e.state) (sym same) ∙ u
   quiet_undefined j after (inr (at, is)) asked u = rw at (moves_here.undefined (ap (λ (e : KeyEntry). e.state) (sym is) ∙ u) asked)
 
-  quiet_new : (j : ℕ) (after : KeyEntry) → Either j after → is_new after.state ≡ true → is_new (entry_of keys j).state ≡ true
+  quiet_new : (j : ℕ) (after : KeyEntry) → Either j after → is_new after.state ≡ true → is_new (entry_named_as keys j).state ≡ true
   quiet_new j after (inl same) n = ap (λ (e : KeyEntry). is_new e.state) (sym same) ∙ n
   quiet_new j after (inr (at, is)) n = rw at (moves_here.new (ap (λ (e : KeyEntry). is_new e.state) (sym is) ∙ n))
 
-  quiet_gone : (j : ℕ) (after : KeyEntry) → Either j after → (entry_of keys j).is_gone ≡ true → after.is_gone ≡ true
+  quiet_gone : (j : ℕ) (after : KeyEntry) → Either j after → (entry_named_as keys j).is_gone ≡ true → after.is_gone ≡ true
   quiet_gone j after (inl same) g = ap (λ (e : KeyEntry). e.is_gone) same ∙ g
-  quiet_gone j after (inr (at, is)) g = ap (λ (e : KeyEntry). e.is_gone) is ∙ used_gone (entry_of keys i) symbol row unrestricted (ap (λ k. (entry_of keys k).is_gone) (sym at) ∙ g)
+  quiet_gone j after (inr (at, is)) g = ap (λ (e : KeyEntry). e.is_gone) is ∙ used_gone (entry_named_as keys i) symbol row unrestricted (ap (λ k. (entry_named_as keys k).is_gone) (sym at) ∙ g)
 
   known_after : (j : ℕ) (after : KeyEntry) → Either j after → is_unasked after.state ≡ true → after.is_asked ≡ false
   known_after j after (inl same) k = ap (λ (e : KeyEntry). e.is_asked) same ∙ known j (ap (λ (e : KeyEntry). is_unasked e.state) (sym same) ∙ k)
@@ -296,15 +296,15 @@ module _ (keys : LinkKeys) (i : ℕ) (symbol : SymbolUse) (row : Option ℕ) (un
   pub follows_used : Follows keys (key_used keys i symbol row)
   unfolding key_used
   follows_used = record {
-    grows = grown keys.asked ((used (entry_of keys i) symbol row).is_asked && not (entry_of keys i).is_asked);
+    grows = grown keys.asked ((used (entry_named_as keys i) symbol row).is_asked && not (entry_named_as keys i).is_asked);
     quiet = λ same.
-        let asked = not_new_asked (used (entry_of keys i) symbol row).is_asked (entry_of keys i).is_asked (not_grown keys.asked ((used (entry_of keys i) symbol row).is_asked && not (entry_of keys i).is_asked) same) in
+        let asked = not_new_asked (used (entry_named_as keys i) symbol row).is_asked (entry_named_as keys i).is_asked (not_grown keys.asked ((used (entry_named_as keys i) symbol row).is_asked && not (entry_named_as keys i).is_asked) same) in
         record {
-          undefined = λ j u. quiet_undefined j (entry_of (key_used keys i symbol row) j) (either_of j) asked u;
-          gone = λ j g. quiet_gone j (entry_of (key_used keys i symbol row) j) (either_of j) g;
-          new = λ j n. quiet_new j (entry_of (key_used keys i symbol row) j) (either_of j) n;
+          undefined = λ j u. quiet_undefined j (entry_named_as (key_used keys i symbol row) j) (either_of j) asked u;
+          gone = λ j g. quiet_gone j (entry_named_as (key_used keys i symbol row) j) (either_of j) g;
+          new = λ j n. quiet_new j (entry_named_as (key_used keys i symbol row) j) (either_of j) n;
         };
-    known = λ j k. known_after j (entry_of (key_used keys i symbol row) j) (either_of j) k;
+    known = λ j k. known_after j (entry_named_as (key_used keys i symbol row) j) (either_of j) k;
   }
 
 -- a symbol, and the symbols of a file
@@ -312,7 +312,7 @@ follows_name : (row : Option ℕ) (keys : LinkKeys) (name : List ℕ) (symbol : 
 unfolding name_used
 follows_name row keys name symbol unrestricted own known =
     let first = follows_entered keys name known in
-    follows_then keys (entered keys name) (name_used row keys name symbol) first (follows_used (entered keys name) (index_of keys name) symbol row unrestricted own first.known)
+    follows_then keys (entered keys name) (name_used row keys name symbol) first (follows_used (entered keys name) (key_index keys name) symbol row unrestricted own first.known)
 
 follows_default : (row : Option ℕ) (keys : LinkKeys) (default : Option (List ℕ)) (symbol : SymbolUse) (ends : Bool) → symbol.restricted ≡ false → IsOwn symbol.role → AskedAreKnown keys → Follows keys (default_used row keys default symbol ends)
 follows_default row keys None symbol ends unrestricted own known = follows_itself keys known
@@ -360,9 +360,9 @@ follows_group : (before : DroppedSections) (group : SectionGroup) → AskedAreKn
 unfolding signature_kept
 follows_group before group known =
     let now = entered before.keys group.signature in
-    let index = index_of before.keys group.signature in
+    let index = key_index before.keys group.signature in
     let first = follows_entered before.keys group.signature known in
-    follows_then before.keys now (group_taken before group).keys first (follows_with now index (kept group.is_link_once (entry_of now index)) (kept_alike group.is_link_once (entry_of now index)) first.known)
+    follows_then before.keys now (group_taken before group).keys first (follows_with now index (kept group.is_link_once (entry_named_as now index)) (kept_alike group.is_link_once (entry_named_as now index)) first.known)
 
 follows_groups : (before : DroppedSections) (groups : List SectionGroup) → AskedAreKnown before.keys → Follows before.keys (groups_taken before groups).keys
 follows_groups before [] known = follows_itself before.keys known
@@ -374,9 +374,9 @@ follows_noted : (keys : LinkKeys) (name : List ℕ) → AskedAreKnown keys → F
 unfolding name_noted
 follows_noted keys name known =
     let now = entered keys name in
-    let index = index_of keys name in
+    let index = key_index keys name in
     let first = follows_entered keys name known in
-    follows_then keys now (name_noted keys name) first (follows_with now index (record (entry_of now index) { is_section = true }) (record { same_state = refl; same_asked = refl; same_gone = refl }) first.known)
+    follows_then keys now (name_noted keys name) first (follows_with now index (record (entry_named_as now index) { is_section = true }) (record { same_state = refl; same_asked = refl; same_gone = refl }) first.known)
 
 follows_section : (keys : LinkKeys) (name : List ℕ) (dropped : Bool) → AskedAreKnown keys → Follows keys (if dropped then keys else name_noted keys name)
 follows_section keys name true known = follows_itself keys known

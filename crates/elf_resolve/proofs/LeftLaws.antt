@@ -3,7 +3,7 @@
 use Rattle.std.proofs.Common.{◌≡◌, ℕ, zero, suc, ◌<◌, Bool, true, false, List, [], ◌∷◌, length, get_or, set, refl, sym, ap, subst, ◌∙◌, arith}
 use Rattle.std.specs.Prelude.{Contains, Some, ◌==◌, not, if◌then◌else◌}
 use Rattle.std.proofs.lemmas.Bool.{eq-eqb, eqb-true}
-use Rattle.elf_model.specs.LinkKeys.{LinkKeys, entry_of}
+use Rattle.elf_model.specs.LinkKeys.{LinkKeys, entry_named_as}
 use Rattle.elf_model.specs.LinkPasses.{ArchivePass, LinkArchive, archive_searched, asks_for, entry_visited, index_name, index_passed, is_new, is_taken, key_of_entry, member_taken, passes_made, takes_member, takes_members, untaken}
 use Rattle.elf_model.specs.declared.link_states.IndexEntry.{IndexEntry}
 use Rattle.elf_model.specs.declared.link_states.KeyEntry.{KeyEntry}
@@ -70,15 +70,15 @@ module _ (archive : LinkArchive) (plain : (member : ℕ) → AreUnrestricted (ar
   asked_by p e false is asks = subst (λ (q : ArchivePass). is_taken q.taken e.member ≡ true) (sym (visited_takes archive p e asks is)) (member_is_taken p e)
 
   -- the key of an entry is the same one before, if nothing new is asked for
-  same_key_by : (p q : LinkKeys) (e : IndexEntry) (before after : Bool) → is_new (entry_of p e.key).state ≡ before → is_new (entry_of q e.key).state ≡ after → (after ≡ true → before ≡ true)
-      → (entry_of p (if after then e.default_key else e.key)).state ≡ Undefined → (if before then e.default_key else e.key) ≡ (if after then e.default_key else e.key)
+  same_key_by : (p q : LinkKeys) (e : IndexEntry) (before after : Bool) → is_new (entry_named_as p e.key).state ≡ before → is_new (entry_named_as q e.key).state ≡ after → (after ≡ true → before ≡ true)
+      → (entry_named_as p (if after then e.default_key else e.key)).state ≡ Undefined → (if before then e.default_key else e.key) ≡ (if after then e.default_key else e.key)
   same_key_by p q e true true was is kept u = refl
   same_key_by p q e false false was is kept u = refl
   same_key_by p q e false true was is kept u = let lost = kept refl in cc
-  same_key_by p q e true false was is kept u = absurd (apart (is_new (entry_of p e.key).state) (ap is_new u) was)
+  same_key_by p q e true false was is kept u = absurd (apart (is_new (entry_named_as p e.key).state) (ap is_new u) was)
 
-  same_key : (p q : LinkKeys) (e : IndexEntry) → IsQuiet p q → (entry_of p (key_of_entry q e)).state ≡ Undefined → key_of_entry p e ≡ key_of_entry q e
-  same_key p q e quiet u = same_key_by p q e (is_new (entry_of p e.key).state) (is_new (entry_of q e.key).state) refl refl (quiet.new e.key) u
+  same_key : (p q : LinkKeys) (e : IndexEntry) → IsQuiet p q → (entry_named_as p (key_of_entry q e)).state ≡ Undefined → key_of_entry p e ≡ key_of_entry q e
+  same_key p q e quiet u = same_key_by p q e (is_new (entry_named_as p e.key).state) (is_new (entry_named_as q e.key).state) refl refl (quiet.new e.key) u
 
   not_gone : (p q : KeyEntry) (gone : Bool) → p.is_gone ≡ gone → (p.is_gone ≡ true → q.is_gone ≡ true) → q.is_gone ≡ false → gone ≡ false
   not_gone p q true is kept none = let lost = kept is in cc
@@ -87,19 +87,19 @@ module _ (archive : LinkArchive) (plain : (member : ℕ) → AreUnrestricted (ar
   takes_undefined : (s : KeyState) (gone defines : Bool) → s ≡ Undefined → gone ≡ false → takes_members s gone defines ≡ true
   takes_undefined s gone defines u none = ap (λ t. takes_members t gone defines) u ∙ ap not none
 
-  asks_undefined : (p q : LinkKeys) (e : IndexEntry) → IsQuiet p q → (entry_of q (key_of_entry q e)).state ≡ Undefined → (entry_of q (key_of_entry q e)).is_gone ≡ false → asks_for archive.members p e ≡ true
+  asks_undefined : (p q : LinkKeys) (e : IndexEntry) → IsQuiet p q → (entry_named_as q (key_of_entry q e)).state ≡ Undefined → (entry_named_as q (key_of_entry q e)).is_gone ≡ false → asks_for archive.members p e ≡ true
   unfolding asks_for
   asks_undefined p q e quiet u none =
-      let before : (entry_of p (key_of_entry q e)).state ≡ Undefined = quiet.undefined (key_of_entry q e) u in
+      let before : (entry_named_as p (key_of_entry q e)).state ≡ Undefined = quiet.undefined (key_of_entry q e) u in
       let key : key_of_entry p e ≡ key_of_entry q e = same_key p q e quiet before in
-      takes_undefined (entry_of p (key_of_entry p e)).state (entry_of p (key_of_entry p e)).is_gone (archive.members.defines e.member (index_name p e))
-      (ap (λ k. (entry_of p k).state) key ∙ before)
-      (ap (λ k. (entry_of p k).is_gone) key
-      ∙ not_gone (entry_of p (key_of_entry q e)) (entry_of q (key_of_entry q e)) (entry_of p (key_of_entry q e)).is_gone refl (quiet.gone (key_of_entry q e)) none)
+      takes_undefined (entry_named_as p (key_of_entry p e)).state (entry_named_as p (key_of_entry p e)).is_gone (archive.members.defines e.member (index_name p e))
+      (ap (λ k. (entry_named_as p k).state) key ∙ before)
+      (ap (λ k. (entry_named_as p k).is_gone) key
+      ∙ not_gone (entry_named_as p (key_of_entry q e)) (entry_named_as q (key_of_entry q e)) (entry_named_as p (key_of_entry q e)).is_gone refl (quiet.gone (key_of_entry q e)) none)
 
   -- A LAST PASS takes the members of all undefined keys
   last_takes : (p : ArchivePass) (es : List IndexEntry) (e : IndexEntry) → AskedAreKnown p.keys → (index_passed archive p es).keys.asked ≡ p.keys.asked → Contains es e
-      → (let q = index_passed archive p es in (entry_of q.keys (key_of_entry q.keys e)).state ≡ Undefined → (entry_of q.keys (key_of_entry q.keys e)).is_gone ≡ false → is_taken q.taken e.member ≡ true)
+      → (let q = index_passed archive p es in (entry_named_as q.keys (key_of_entry q.keys e)).state ≡ Undefined → (entry_named_as q.keys (key_of_entry q.keys e)).is_gone ≡ false → is_taken q.taken e.member ≡ true)
   last_takes p [] e known same (k, within, is) u none = absurd (omega arith)
   last_takes p (x ∷ es) e known same (zero, within, is) u none =
       let q = index_passed archive p (x ∷ es) in
@@ -140,12 +140,12 @@ module _ (archive : LinkArchive) (plain : (member : ℕ) → AreUnrestricted (ar
       (follows_pass p es known).known)
 
   taken_at_end : (es : List IndexEntry) (end : ArchivePass) (e : IndexEntry) → EndsIn es end → Contains es e
-      → (entry_of end.keys (key_of_entry end.keys e)).state ≡ Undefined → (entry_of end.keys (key_of_entry end.keys e)).is_gone ≡ false → is_taken end.taken e.member ≡ true
+      → (entry_named_as end.keys (key_of_entry end.keys e)).state ≡ Undefined → (entry_named_as end.keys (key_of_entry end.keys e)).is_gone ≡ false → is_taken end.taken e.member ≡ true
   taken_at_end es end e ends there u none =
       ap (λ (q : ArchivePass). is_taken q.taken e.member) ends.is
       ∙ last_takes ends.start es e ends.known ends.same there
-      (ap (λ (q : ArchivePass). (entry_of q.keys (key_of_entry q.keys e)).state) (sym ends.is) ∙ u)
-      (ap (λ (q : ArchivePass). (entry_of q.keys (key_of_entry q.keys e)).is_gone) (sym ends.is) ∙ none)
+      (ap (λ (q : ArchivePass). (entry_named_as q.keys (key_of_entry q.keys e)).state) (sym ends.is) ∙ u)
+      (ap (λ (q : ArchivePass). (entry_named_as q.keys (key_of_entry q.keys e)).is_gone) (sym ends.is) ∙ none)
 
   searched_ends : (es : List IndexEntry) (p : ArchivePass) → AskedAreKnown p.keys → EndsIn es (archive_searched archive es p)
   unfolding archive_searched
@@ -154,7 +154,7 @@ module _ (archive : LinkArchive) (plain : (member : ℕ) → AreUnrestricted (ar
 -- AFTER A SEARCH
 pub none_left : (archive : LinkArchive) (entries : List IndexEntry) (pass : ArchivePass) (entry : IndexEntry)
     → ((member : ℕ) → AreUnrestricted (archive.members.objects member).symbols) → AskedAreKnown pass.keys → Contains entries entry
-    → (let end = archive_searched archive entries pass in let known = entry_of end.keys (key_of_entry end.keys entry) in
+    → (let end = archive_searched archive entries pass in let known = entry_named_as end.keys (key_of_entry end.keys entry) in
     known.state ≡ Undefined → known.is_gone ≡ false → is_taken end.taken entry.member ≡ true)
 none_left archive entries pass entry plain known there =
     taken_at_end archive plain entries (archive_searched archive entries pass) entry (searched_ends archive plain entries pass known) there

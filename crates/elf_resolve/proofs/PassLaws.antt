@@ -6,7 +6,7 @@ use Rattle.std.proofs.lemmas.Grind.{common_steps}
 use Rattle.elf_model.specs.LinkPasses.{ArchivePass, LinkArchive, archive_searched, asks_for, entry_visited, index_passed, is_taken, member_taken, passes_made, takes_member, untaken}
 use Rattle.elf_model.specs.declared.link_states.IndexEntry.{IndexEntry}
 use Rattle.elf_resolve.specs.LinkLaws.{Reaches}
-use Rattle.elf_resolve.specs.LinkLaws.Reaches.{Stays, Takes}
+use Rattle.elf_resolve.specs.LinkLaws.Reaches.{Stays, TakesMembers}
 
 -- an entry whose key takes no members, or whose member is taken, changes nothing
 not_asked : (asks taken : Bool) → asks ≡ false → (asks && not taken) ≡ false
@@ -93,7 +93,7 @@ module _ (archive : LinkArchive) where
   pass_keeps p [] = refl
   pass_keeps p (e ∷ es) = pass_keeps (entry_visited archive p e) es ∙ visit_keeps p e
 
-  -- rows are only added, and if none is, nothing changed
+  -- rows are only added, and if none is, nothing key_changed
   grows_by : (p : ArchivePass) (e : IndexEntry) (is : Bool) → takes_member archive p e ≡ is → length p.rows ≤ length (entry_visited archive p e).rows
   grows_by p e true is = rw (visited p e is) (omega (arith, rows_after p e))
   grows_by p e false is = rw (not_visited p e is) (omega arith)
@@ -161,13 +161,13 @@ module _ (archive : LinkArchive) where
   -- A MEMBER IS TAKEN ONLY FOR A KEY THAT ASKED FOR IT JUST BEFORE
   and_then : (entries : List IndexEntry) (p q r : ArchivePass) → Reaches archive entries p q → Reaches archive entries q r → Reaches archive entries p r
   and_then entries p q r (Stays same) rest = rest
-  and_then entries p q r (Takes from end entry there asks free taken) rest = Takes from r entry there asks free (and_then entries (member_taken archive from entry) end r taken rest)
+  and_then entries p q r (TakesMembers from end entry there asks free taken) rest = TakesMembers from r entry there asks free (and_then entries (member_taken archive from entry) end r taken rest)
 
   visit_reaches : (entries : List IndexEntry) (p : ArchivePass) (e : IndexEntry) (is : Bool) → Contains entries e → takes_member archive p e ≡ is → Reaches archive entries p (entry_visited archive p e)
   unfolding takes_member
   visit_reaches entries p e true there is =
       subst (λ q. Reaches archive entries p q) (sym (visited p e is))
-      (Takes p (member_taken archive p e) e there (asks_of (asks_for archive.members p.keys e) (is_taken p.taken e.member) is)
+      (TakesMembers p (member_taken archive p e) e there (asks_of (asks_for archive.members p.keys e) (is_taken p.taken e.member) is)
       (free_of (asks_for archive.members p.keys e) (is_taken p.taken e.member) is) (Stays (member_taken archive p e)))
   visit_reaches entries p e false there is = subst (λ q. Reaches archive entries p q) (sym (not_visited p e is)) (Stays p)
 

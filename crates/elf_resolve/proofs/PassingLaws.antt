@@ -8,7 +8,7 @@ use Rattle.elf_model.specs.LinkObjects.{object_taken}
 use Rattle.elf_model.specs.LinkPasses.{ArchiveMembers, ArchivePass, LinkArchive, archive_searched, entry_visited, index_passed, is_taken, member_row, member_taken, untaken}
 use Rattle.elf_model.specs.declared.link_states.IndexEntry.{IndexEntry}
 use Rattle.elf_model.specs.declared.link_states.LinkRow.{LinkRow}
-use Rattle.elf_resolve.specs.Passing.{Moved, PassedTo, archive_of}
+use Rattle.elf_resolve.specs.Passing.{Moved, PassedTo, searched_archive}
 use Rattle.elf_resolve.specs.declared.passes.ArchiveInput.{ArchiveInput}
 use Rattle.elf_resolve.proofs.PassLaws.{index_passed-push, searched_end, searched_more, untaken-set}
 
@@ -45,42 +45,42 @@ fewer_moved p new moved differ =
 
 module _ (archive : ArchiveInput) (m0 m1 m2 : ArchiveMembers) (k0 k1 k2 : Type 0) (start now new : ArchivePass) (es : List IndexEntry) where
   -- one entry more
-  pub one_more : (i : ℕ) (d : IndexEntry) → i < length es → PassedTo m0 m1 k0 k1 (index_passed (archive_of archive m0) start (take i es)) now → m2 ≡ m1 → (k1 → k2)
-      → (k1 → new ≡ entry_visited (archive_of archive m1) now (get_or es i d)) → PassedTo m0 m2 k0 k2 (index_passed (archive_of archive m0) start (take (i + 1) es)) new
+  pub one_more : (i : ℕ) (d : IndexEntry) → i < length es → PassedTo m0 m1 k0 k1 (index_passed (searched_archive archive m0) start (take i es)) now → m2 ≡ m1 → (k1 → k2)
+      → (k1 → new ≡ entry_visited (searched_archive archive m1) now (get_or es i d)) → PassedTo m0 m2 k0 k2 (index_passed (searched_archive archive m0) start (take (i + 1) es)) new
   one_more i d there before same known visited = record {
     same = same ∙ before.same;
     known = λ k. known (before.known k);
     holds = λ k.
         visited (before.known k)
-        ∙ ap (λ m. entry_visited (archive_of archive m) now (get_or es i d)) before.same
-        ∙ ap (λ p. entry_visited (archive_of archive m0) p (get_or es i d)) (before.holds k)
-        ∙ sym (index_passed-push (archive_of archive m0) start (take i es) (get_or es i d))
-        ∙ ap (λ l. index_passed (archive_of archive m0) start l) (sym (take_more es i d there));
+        ∙ ap (λ m. entry_visited (searched_archive archive m) now (get_or es i d)) before.same
+        ∙ ap (λ p. entry_visited (searched_archive archive m0) p (get_or es i d)) (before.holds k)
+        ∙ sym (index_passed-push (searched_archive archive m0) start (take i es) (get_or es i d))
+        ∙ ap (λ l. index_passed (searched_archive archive m0) start l) (sym (take_more es i d there));
   }
 
-  passed : m1 ≡ m0 → new ≡ index_passed (archive_of archive m1) now es → new ≡ index_passed (archive_of archive m0) now es
-  passed same is = is ∙ ap (λ m. index_passed (archive_of archive m) now es) same
+  passed : m1 ≡ m0 → new ≡ index_passed (searched_archive archive m1) now es → new ≡ index_passed (searched_archive archive m0) now es
+  passed same is = is ∙ ap (λ m. index_passed (searched_archive archive m) now es) same
 
   -- the last pass
-  pub last_pass : PassedTo m0 m1 k0 k1 (archive_searched (archive_of archive m0) es start) (archive_searched (archive_of archive m0) es now) → (k1 → new ≡ index_passed (archive_of archive m1) now es)
-      → new.keys.asked ≡ now.keys.asked → k0 → new ≡ archive_searched (archive_of archive m0) es start
+  pub last_pass : PassedTo m0 m1 k0 k1 (archive_searched (searched_archive archive m0) es start) (archive_searched (searched_archive archive m0) es now) → (k1 → new ≡ index_passed (searched_archive archive m1) now es)
+      → new.keys.asked ≡ now.keys.asked → k0 → new ≡ archive_searched (searched_archive archive m0) es start
   last_pass before is same_asked k =
-      let this : new ≡ index_passed (archive_of archive m0) now es = passed before.same (is (before.known k)) in
-      this ∙ sym (searched_end (archive_of archive m0) es now (ap (λ (p : ArchivePass). p.keys.asked) (sym this) ∙ same_asked)) ∙ before.holds k
+      let this : new ≡ index_passed (searched_archive archive m0) now es = passed before.same (is (before.known k)) in
+      this ∙ sym (searched_end (searched_archive archive m0) es now (ap (λ (p : ArchivePass). p.keys.asked) (sym this) ∙ same_asked)) ∙ before.holds k
 
   differ_by : (a b c : ℕ) → a ≡ b → (a ≡ c → ⊥) → (b == c) ≡ false
   differ_by a b c same differ = grind (arith, nat_tests)
 
-  another_by : PassedTo m0 m1 k0 k1 (archive_searched (archive_of archive m0) es start) (archive_searched (archive_of archive m0) es now) → new ≡ index_passed (archive_of archive m0) now es
-      → (new.keys.asked ≡ now.keys.asked → ⊥) → k0 → archive_searched (archive_of archive m0) es new ≡ archive_searched (archive_of archive m0) es start
+  another_by : PassedTo m0 m1 k0 k1 (archive_searched (searched_archive archive m0) es start) (archive_searched (searched_archive archive m0) es now) → new ≡ index_passed (searched_archive archive m0) now es
+      → (new.keys.asked ≡ now.keys.asked → ⊥) → k0 → archive_searched (searched_archive archive m0) es new ≡ archive_searched (searched_archive archive m0) es start
   another_by before this differ k =
-      ap (λ p. archive_searched (archive_of archive m0) es p) this
-      ∙ sym (searched_more (archive_of archive m0) es now (differ_by _ _ _ (ap (λ (p : ArchivePass). p.keys.asked) this) differ))
+      ap (λ p. archive_searched (searched_archive archive m0) es p) this
+      ∙ sym (searched_more (searched_archive archive m0) es now (differ_by _ _ _ (ap (λ (p : ArchivePass). p.keys.asked) this) differ))
       ∙ before.holds k
 
   -- another pass
-  pub another : PassedTo m0 m1 k0 k1 (archive_searched (archive_of archive m0) es start) (archive_searched (archive_of archive m0) es now) → m2 ≡ m1 → (k1 → k2) → (k1 → new ≡ index_passed (archive_of archive m1) now es)
-      → (new.keys.asked ≡ now.keys.asked → ⊥) → PassedTo m0 m2 k0 k2 (archive_searched (archive_of archive m0) es start) (archive_searched (archive_of archive m0) es new)
+  pub another : PassedTo m0 m1 k0 k1 (archive_searched (searched_archive archive m0) es start) (archive_searched (searched_archive archive m0) es now) → m2 ≡ m1 → (k1 → k2) → (k1 → new ≡ index_passed (searched_archive archive m1) now es)
+      → (new.keys.asked ≡ now.keys.asked → ⊥) → PassedTo m0 m2 k0 k2 (archive_searched (searched_archive archive m0) es start) (archive_searched (searched_archive archive m0) es new)
   another before same known is differ = record {
     same = same ∙ before.same;
     known = λ k. known (before.known k);

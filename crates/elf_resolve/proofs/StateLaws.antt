@@ -4,9 +4,9 @@ use Rattle.std.specs.Prelude.{Contains, ◌==◌, ◌||◌, ◌&&◌, nat_lt, if
 use Rattle.std.specs.List.Sorted.{IsPermutation}
 use Rattle.std.proofs.lemmas.Bool.Decides.{nat_tests}
 use Rattle.std.proofs.lemmas.List.Sorted.{Contains-permutation, IsPermutation-sym}
-use Rattle.elf_resolve.specs.KeyStates.{AreOwn, IsOwn, IsOwnState, after, after_all, alone, is_above, rank, size_of}
-use Rattle.elf_model.specs.LinkSteps.{state_after}
-use Rattle.elf_model.specs.declared.link_states.StateChange.TheVariants.{Stays, Becomes}
+use Rattle.elf_resolve.specs.KeyStates.{AreOwn, IsOwn, IsOwnState, after, after_all, alone, is_above_state, rank, common_size}
+use Rattle.elf_model.specs.LinkSteps.{key_state_after}
+use Rattle.elf_model.specs.declared.link_states.StateChange.TheVariants.{Stays, BecomesState}
 use Rattle.elf_model.specs.declared.link_states.SymbolRole.{SymbolRole}
 use Rattle.elf_model.specs.declared.link_states.SymbolRole.TheVariants.{WeakReference, Reference, Common, Definition}
 use Rattle.elf_model.specs.declared.link_states.SymbolRole.TheVariants as role
@@ -20,30 +20,30 @@ same_none r m = grind (arith, nat_tests)
 up_by : (a b c l m n : ℕ) → (nat_lt b a || ((a == b) && nat_lt m l)) ≡ false → (nat_lt c b || ((b == c) && nat_lt n m)) ≡ false → (nat_lt c a || ((a == c) && nat_lt n l)) ≡ false
 up_by a b c l m n first second = grind (arith, nat_tests)
 
-above_none : (s : KeyState) → is_above s s ≡ false
-above_none s = same_none (rank s) (size_of s)
+above_none : (s : KeyState) → is_above_state s s ≡ false
+above_none s = same_none (rank s) (common_size s)
 
-up : (a b c : KeyState) → is_above a b ≡ false → is_above b c ≡ false → is_above a c ≡ false
-up a b c first second = up_by (rank a) (rank b) (rank c) (size_of a) (size_of b) (size_of c) first second
+up : (a b c : KeyState) → is_above_state a b ≡ false → is_above_state b c ≡ false → is_above_state a c ≡ false
+up a b c first second = up_by (rank a) (rank b) (rank c) (common_size a) (common_size b) (common_size c) first second
 
 -- of two commons
-grown : (m n : ℕ) (b : Bool) → nat_lt m n ≡ b → is_above (state.Common m) (state_after (state.Common m) (if b then Becomes (state.Common n) else Stays)) ≡ false
+grown : (m n : ℕ) (b : Bool) → nat_lt m n ≡ b → is_above_state (state.Common m) (key_state_after (state.Common m) (if b then BecomesState (state.Common n) else Stays)) ≡ false
 grown m n true is = grind (arith, nat_tests)
 grown m n false is = grind (arith, nat_tests)
 
-covered : (m n : ℕ) (b : Bool) → nat_lt m n ≡ b → is_above (state.Common n) (state_after (state.Common m) (if b then Becomes (state.Common n) else Stays)) ≡ false
+covered : (m n : ℕ) (b : Bool) → nat_lt m n ≡ b → is_above_state (state.Common n) (key_state_after (state.Common m) (if b then BecomesState (state.Common n) else Stays)) ≡ false
 covered m n true is = grind (arith, nat_tests)
 covered m n false is = grind (arith, nat_tests)
 
 -- an event of an object leaves a state that is not below the one before
-keeps_up : (s : KeyState) (e : SymbolRole) → IsOwnState s → IsOwn e → is_above s (after s e) ≡ false
+keeps_up : (s : KeyState) (e : SymbolRole) → IsOwnState s → IsOwn e → is_above_state s (after s e) ≡ false
 keeps_up (Shared y) e os oe = absurd os
 keeps_up s (role.Shared y) os oe = absurd oe
 keeps_up (state.Common m) (Common n) os oe = grown m n (nat_lt m n) refl
 keeps_up (state.Common m) e os oe = grind (arith, nat_tests)
 keeps_up s e os oe = refl
 
-covers : (s : KeyState) (e : SymbolRole) → IsOwnState s → IsOwn e → is_above (alone e) (after s e) ≡ false
+covers : (s : KeyState) (e : SymbolRole) → IsOwnState s → IsOwn e → is_above_state (alone e) (after s e) ≡ false
 covers (Shared y) e os oe = absurd os
 covers s (role.Shared y) os oe = absurd oe
 covers (state.Common m) (Common n) os oe = covered m n (nat_lt m n) refl
@@ -51,7 +51,7 @@ covers s (Common n) os oe = grind (arith, nat_tests)
 covers s e os oe = refl
 
 -- it leaves that one, or its alone
-chosen : (m n : ℕ) (b : Bool) → (let left = state_after (state.Common m) (if b then Becomes (state.Common n) else Stays) in (left ≡ state.Common m) ⊎ (left ≡ state.Common n))
+chosen : (m n : ℕ) (b : Bool) → (let left = key_state_after (state.Common m) (if b then BecomesState (state.Common n) else Stays) in (left ≡ state.Common m) ⊎ (left ≡ state.Common n))
 chosen m n true = inr refl
 chosen m n false = inl refl
 
@@ -72,7 +72,7 @@ one_of WeakDefined Definition os oe = inr refl
 one_of WeakDefined (Common n) os oe = inr refl
 one_of WeakDefined e os oe = inl refl
 
-own_choice : (m n : ℕ) (b : Bool) → IsOwnState (state_after (state.Common m) (if b then Becomes (state.Common n) else Stays))
+own_choice : (m n : ℕ) (b : Bool) → IsOwnState (key_state_after (state.Common m) (if b then BecomesState (state.Common n) else Stays))
 own_choice m n true = tt
 own_choice m n false = tt
 
@@ -83,14 +83,14 @@ stays_own (state.Common m) (Common n) os oe = own_choice m n (nat_lt m n)
 stays_own s e os oe = tt
 
 -- after all of them
-start_below : (s : KeyState) (es : List SymbolRole) → IsOwnState s → AreOwn es → is_above s (after_all s es) ≡ false
+start_below : (s : KeyState) (es : List SymbolRole) → IsOwnState s → AreOwn es → is_above_state s (after_all s es) ≡ false
 start_below s [] os oes = above_none s
 start_below s (e ∷ es) os oes = up s (after s e) (after_all (after s e) es) (keeps_up s e os oes.0) (start_below (after s e) es (stays_own s e os oes.0) oes.1)
 
-each_below : (s : KeyState) (es : List SymbolRole) → IsOwnState s → AreOwn es → (e : SymbolRole) → Contains es e → is_above (alone e) (after_all s es) ≡ false
+each_below : (s : KeyState) (es : List SymbolRole) → IsOwnState s → AreOwn es → (e : SymbolRole) → Contains es e → is_above_state (alone e) (after_all s es) ≡ false
 each_below s [] os oes e (k, within, is) = absurd (omega arith)
 each_below s (x ∷ es) os oes e (zero, within, is) =
-    subst (λ y. is_above (alone y) (after_all (after s x) es) ≡ false) is
+    subst (λ y. is_above_state (alone y) (after_all (after s x) es) ≡ false) is
     (up (alone x) (after s x) (after_all (after s x) es) (covers s x os oes.0) (start_below (after s x) es (stays_own s x os oes.0) oes.1))
 each_below s (x ∷ es) os oes e (suc k, within, is) = each_below (after s x) es (stays_own s x os oes.0) oes.1 e (k, omega arith, is)
 
@@ -108,7 +108,7 @@ is_one_of s [] os oes = inl refl
 is_one_of s (e ∷ es) os oes = further s (after_all (after s e) es) e es (one_of s e os oes.0) (is_one_of (after s e) es (stays_own s e os oes.0) oes.1)
 
 -- THE LARGEST: what each of them makes is not above it, and it is what one of them makes, or there is none
-pub largest : (es : List SymbolRole) → AreOwn es → (e : SymbolRole) → Contains es e → is_above (alone e) (after_all New es) ≡ false
+pub largest : (es : List SymbolRole) → AreOwn es → (e : SymbolRole) → Contains es e → is_above_state (alone e) (after_all New es) ≡ false
 largest es oes = each_below New es tt oes
 
 pub largest_one : (es : List SymbolRole) → AreOwn es → (after_all New es ≡ New) ⊎ ((e : SymbolRole) × Contains es e × (after_all New es ≡ alone e))
@@ -123,7 +123,7 @@ with_rank (suc (suc (suc zero))) size = WeakDefined
 with_rank (suc (suc (suc (suc zero)))) size = state.Common size
 with_rank (suc (suc (suc (suc (suc r))))) size = Defined
 
-of_rank : (s : KeyState) → IsOwnState s → with_rank (rank s) (size_of s) ≡ s
+of_rank : (s : KeyState) → IsOwnState s → with_rank (rank s) (common_size s) ≡ s
 of_rank New os = refl
 of_rank Weak os = refl
 of_rank Undefined os = refl
@@ -139,15 +139,15 @@ all_own s (e ∷ es) os oes = all_own (after s e) es (stays_own s e os oes.0) oe
 ranks : (a b m n : ℕ) → (nat_lt b a || ((a == b) && nat_lt n m)) ≡ false → (nat_lt a b || ((b == a) && nat_lt m n)) ≡ false → (a ≡ b) × (m ≡ n)
 ranks a b m n first second = (grind (arith, nat_tests), grind (arith, nat_tests))
 
-one_height : (a b : KeyState) → IsOwnState a → IsOwnState b → is_above a b ≡ false → is_above b a ≡ false → a ≡ b
+one_height : (a b : KeyState) → IsOwnState a → IsOwnState b → is_above_state a b ≡ false → is_above_state b a ≡ false → a ≡ b
 one_height a b oa ob first second =
-    let same = ranks (rank a) (rank b) (size_of a) (size_of b) first second in
-    sym (of_rank a oa) ∙ ap (λ r. with_rank r (size_of a)) same.0 ∙ ap (λ n. with_rank (rank b) n) same.1 ∙ of_rank b ob
+    let same = ranks (rank a) (rank b) (common_size a) (common_size b) first second in
+    sym (of_rank a oa) ∙ ap (λ r. with_rank r (common_size a)) same.0 ∙ ap (λ n. with_rank (rank b) n) same.1 ∙ of_rank b ob
 
-below : (es fs : List SymbolRole) → AreOwn es → AreOwn fs → IsPermutation es fs → IsOneOf New fs (after_all New fs) → is_above (after_all New fs) (after_all New es) ≡ false
-below es fs oes ofs mixed (inl none) = subst (λ t. is_above t (after_all New es) ≡ false) (sym none) (start_below New es tt oes)
+below : (es fs : List SymbolRole) → AreOwn es → AreOwn fs → IsPermutation es fs → IsOneOf New fs (after_all New fs) → is_above_state (after_all New fs) (after_all New es) ≡ false
+below es fs oes ofs mixed (inl none) = subst (λ t. is_above_state t (after_all New es) ≡ false) (sym none) (start_below New es tt oes)
 below es fs oes ofs mixed (inr (e, there, is)) =
-    subst (λ t. is_above t (after_all New es) ≡ false) (sym is) (each_below New es tt oes e (Contains-permutation fs es e (IsPermutation-sym es fs mixed) there))
+    subst (λ t. is_above_state t (after_all New es) ≡ false) (sym is) (each_below New es tt oes e (Contains-permutation fs es e (IsPermutation-sym es fs mixed) there))
 
 pub any_order : (es fs : List SymbolRole) → AreOwn es → AreOwn fs → IsPermutation es fs → after_all New es ≡ after_all New fs
 any_order es fs oes ofs mixed =

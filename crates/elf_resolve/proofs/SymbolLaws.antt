@@ -5,8 +5,8 @@ use Rattle.std.proofs.lemmas.List.{get_or-map, length-map, take_more}
 use Rattle.elf_model.specs.LinkKeys.{LinkKeys, LinkSymbol, default_used, entry_named, name_used, prepared, symbol_taken, symbols_taken}
 use Rattle.elf_model.specs.LinkSteps.{ends_at}
 use Rattle.elf_model.specs.declared.link_states.KeyEntry.{KeyEntry}
-use Rattle.elf_resolve.specs.KeyTables.{Table}
-use Rattle.elf_resolve.specs.Symbols.{TookSymbol, TookSymbols, UsedName, symbol_of}
+use Rattle.elf_resolve.specs.KeyTables.{KeyList}
+use Rattle.elf_resolve.specs.Symbols.{TookSymbol, TookSymbols, UsedName, symbol_record}
 use Rattle.elf_resolve.specs.declared.symbols.Symbol as given
 
 -- a symbol after others
@@ -30,13 +30,13 @@ taken_as row keys s default ends default_is ends_is =
     ∙ ap (λ b. default_used row (name_used row keys s.name s.symbol) s.default_name s.symbol b) (sym ends_is)
 
 -- a symbol of one name; one that ends at its first; and one that uses both
-pub first_alone : (old new : Table) (s : LinkSymbol) (row : Option ℕ) → s.default_name ≡ None → UsedName old new s.name s.symbol row → TookSymbol old new s row
+pub first_alone : (old new : KeyList) (s : LinkSymbol) (row : Option ℕ) → s.default_name ≡ None → UsedName old new s.name s.symbol row → TookSymbol old new s row
 first_alone old new s row one used = record { keys = used.keys ∙ taken_as row old.keys s None (ends_in old.keys s) one refl; most = used.most; most_further = used.most_further }
 
-pub ends_at_first : (old new : Table) (s : LinkSymbol) (row : Option ℕ) (name : List ℕ) → s.default_name ≡ Some name → ends_in old.keys s ≡ true → UsedName old new s.name s.symbol row → TookSymbol old new s row
+pub ends_at_first : (old new : KeyList) (s : LinkSymbol) (row : Option ℕ) (name : List ℕ) → s.default_name ≡ Some name → ends_in old.keys s ≡ true → UsedName old new s.name s.symbol row → TookSymbol old new s row
 ends_at_first old new s row name two ends used = record { keys = used.keys ∙ taken_as row old.keys s (Some name) true two ends; most = used.most; most_further = used.most_further }
 
-pub second_used : (old now new : Table) (s : LinkSymbol) (row : Option ℕ) (name : List ℕ) → s.default_name ≡ Some name → ends_in old.keys s ≡ false → UsedName old now s.name s.symbol row → UsedName now new name s.symbol row → TookSymbol old new s row
+pub second_used : (old now new : KeyList) (s : LinkSymbol) (row : Option ℕ) (name : List ℕ) → s.default_name ≡ Some name → ends_in old.keys s ≡ false → UsedName old now s.name s.symbol row → UsedName now new name s.symbol row → TookSymbol old new s row
 second_used old now new s row name two ends first second = record {
   keys = second.keys ∙ ap (λ k. name_used row k name s.symbol) first.keys ∙ taken_as row old.keys s (Some name) false two ends;
   most = second.most ∙ first.most;
@@ -44,14 +44,14 @@ second_used old now new s row name two ends first second = record {
 }
 
 -- one symbol more
-pub took_more : (old now new : Table) (symbols : List given.Symbol) (row : Option ℕ) (i : ℕ) (d : given.Symbol) → i < length symbols → TookSymbols old now (take i (map symbol_of symbols)) row
-    → TookSymbol now new (symbol_of (get_or symbols i d)) row → TookSymbols old new (take (i + 1) (map symbol_of symbols)) row
+pub took_more : (old now new : KeyList) (symbols : List given.Symbol) (row : Option ℕ) (i : ℕ) (d : given.Symbol) → i < length symbols → TookSymbols old now (take i (map symbol_record symbols)) row
+    → TookSymbol now new (symbol_record (get_or symbols i d)) row → TookSymbols old new (take (i + 1) (map symbol_record symbols)) row
 took_more old now new symbols row i d there before one =
-    let next : take (i + 1) (map symbol_of symbols) ≡ take i (map symbol_of symbols) ++ symbol_of (get_or symbols i d) ∷ [] =
-    take_more (map symbol_of symbols) i (symbol_of d) (omega (arith, length-map symbols symbol_of))
-    ∙ ap (λ s. take i (map symbol_of symbols) ++ s ∷ []) (get_or-map symbol_of symbols i d (symbol_of d) there) in
+    let next : take (i + 1) (map symbol_record symbols) ≡ take i (map symbol_record symbols) ++ symbol_record (get_or symbols i d) ∷ [] =
+    take_more (map symbol_record symbols) i (symbol_record d) (omega (arith, length-map symbols symbol_record))
+    ∙ ap (λ s. take i (map symbol_record symbols) ++ s ∷ []) (get_or-map symbol_record symbols i d (symbol_record d) there) in
     record {
-      keys = rw (next, symbols_taken-push) (one.keys ∙ ap (λ k. symbol_taken row k (symbol_of (get_or symbols i d))) before.keys);
+      keys = rw (next, symbols_taken-push) (one.keys ∙ ap (λ k. symbol_taken row k (symbol_record (get_or symbols i d))) before.keys);
       most = one.most ∙ before.most;
       most_further = one.most_further ∙ before.most_further;
     }

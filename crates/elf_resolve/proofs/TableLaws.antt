@@ -3,17 +3,17 @@ use Rattle.std.proofs.Common.{◌≡◌, ℕ, ◌+◌, Bool, true, false, cond, 
 use Rattle.std.specs.Prelude.{Option, None, Some, bytes_eq}
 use Rattle.std.specs.Map.{lookup}
 use Rattle.std.proofs.lemmas.Slice.Eq.{bytes_eq-Decides}
-use Rattle.elf_model.specs.LinkKeys.{entered, entered_at, entry_of, index_of, index_or, key_in, key_used, name_used, new_key, with_entry}
+use Rattle.elf_model.specs.LinkKeys.{entered, entered_at, entry_named_as, key_index, index_or, key_in, key_used, name_used, new_key, with_entry}
 use Rattle.elf_model.specs.LinkObjects.{is_kept, kept, name_noted, signature_kept}
 use Rattle.elf_model.specs.declared.link_states.KeyEntry.{KeyEntry}
 use Rattle.elf_model.specs.declared.link_states.SymbolUse.{SymbolUse}
-use Rattle.elf_resolve.specs.KeyTables.{Entered, Finds, KeptGroup, NotedSection, Table, fresh, fresh_or}
+use Rattle.elf_resolve.specs.KeyTables.{Entered, FindsKeys, KeptGroup, NotedSection, KeyList, fresh, fresh_or}
 use Rattle.elf_resolve.specs.Symbols.{UsedName}
 use Rattle.elf_resolve.proofs.ListLaws.{position_push_new, position_push_other}
 
 -- a name that is known
-pub known : (old : Table) (name : List ℕ) (index : ℕ) → key_in old.keys.names name ≡ Some index → Entered old old name index
-unfolding entered index_of fresh
+pub known : (old : KeyList) (name : List ℕ) (index : ℕ) → key_in old.keys.names name ≡ Some index → Entered old old name index
+unfolding entered key_index fresh
 known old name index found = record {
   keys = subst (λ o. old.keys ≡ entered_at o old.keys name) (sym found) refl;
   index_is = subst (λ o. index ≡ index_or o (length old.keys.names)) (sym found) refl;
@@ -23,10 +23,10 @@ known old name index found = record {
 }
 
 -- a new name
-pub new_name : (old new : Table) (name : List ℕ) (index : ℕ) → key_in old.keys.names name ≡ None
+pub new_name : (old new : KeyList) (name : List ℕ) (index : ℕ) → key_in old.keys.names name ≡ None
     → new.keys ≡ record old.keys { names = old.keys.names ++ name ∷ []; entries = old.keys.entries ++ new_key ∷ [] }
     → index ≡ length old.keys.names → new.most ≡ old.most → new.most_further ≡ old.most_further → new.room + length name ≡ old.room → Entered old new name index
-unfolding entered index_of fresh
+unfolding entered key_index fresh
 new_name old new name index absent keys next most most_further room = record {
   keys = subst (λ o. new.keys ≡ entered_at o old.keys name) (sym absent) keys;
   index_is = subst (λ o. index ≡ index_or o (length old.keys.names)) (sym absent) next;
@@ -40,7 +40,7 @@ not_back : (xs ys : List ℕ) (back : Bool) → bytes_eq ys xs ≡ back → byte
 not_back xs ys false is apart = refl
 not_back xs ys true is apart = let yes : bytes_eq xs ys ≡ true = (bytes_eq-Decides xs ys).1 (sym ((bytes_eq-Decides ys xs).0 is)) in cc
 
-finds_by : (places others : List (Bor (List ℕ) × ℕ)) (names : List (List ℕ)) (name : List ℕ) (next : ℕ) → Finds places names → key_in names name ≡ None → next ≡ length names
+finds_by : (places others : List (Bor (List ℕ) × ℕ)) (names : List (List ℕ)) (name : List ℕ) (next : ℕ) → FindsKeys places names → key_in names name ≡ None → next ≡ length names
     → ((q : List ℕ) → lookup (λ k. bytes_eq q k.now) others ≡ cond (bytes_eq name q) (Some next) (lookup (λ k. bytes_eq q k.now) places))
     → (q : List ℕ) (same : Bool) → bytes_eq name q ≡ same → lookup (λ k. bytes_eq q k.now) others ≡ key_in (names ++ name ∷ []) q
 finds_by places others names name next finds absent is_next updates q true same =
@@ -56,57 +56,57 @@ finds_by places others names name next finds absent is_next updates q false same
     ∙ sym (position_push_other (bytes_eq q) names name (not_back name q (bytes_eq q name) refl same))
 
 -- a map that has one more name at the next index finds it after the others
-pub finds_more : (places others : List (Bor (List ℕ) × ℕ)) (names : List (List ℕ)) (name : List ℕ) (next : ℕ) → Finds places names → key_in names name ≡ None → next ≡ length names
+pub finds_more : (places others : List (Bor (List ℕ) × ℕ)) (names : List (List ℕ)) (name : List ℕ) (next : ℕ) → FindsKeys places names → key_in names name ≡ None → next ≡ length names
     → ((q : List ℕ) → lookup (λ k. bytes_eq q k.now) others ≡ cond (bytes_eq name q) (Some next) (lookup (λ k. bytes_eq q k.now) places))
-    → Finds others (names ++ name ∷ [])
+    → FindsKeys others (names ++ name ∷ [])
 finds_more places others names name next finds absent is_next updates q =
     finds_by places others names name next finds absent is_next updates q (bytes_eq name q) refl
 
 -- a group kept at the key of its signature, and a section noted at that of its name
-pub group_kept : (old now new : Table) (signature : List ℕ) (is_link_once : Bool) (index : ℕ) (entry after : KeyEntry) (dropped : Bool) → Entered old now signature index
-    → entry ≡ entry_of now.keys index → after ≡ kept is_link_once entry → new ≡ record now { keys = with_entry now.keys index after } → dropped ≡ is_kept is_link_once entry
+pub group_kept : (old now new : KeyList) (signature : List ℕ) (is_link_once : Bool) (index : ℕ) (entry after : KeyEntry) (dropped : Bool) → Entered old now signature index
+    → entry ≡ entry_named_as now.keys index → after ≡ kept is_link_once entry → new ≡ record now { keys = with_entry now.keys index after } → dropped ≡ is_kept is_link_once entry
     → KeptGroup old new signature is_link_once dropped
 unfolding signature_kept
 group_kept old now new signature is_link_once index entry after dropped before known kept_is new_is dropped_is = record {
   keys =
-      ap (λ (t : Table). t.keys) new_is
+      ap (λ (t : KeyList). t.keys) new_is
       ∙ ap (λ a. with_entry now.keys index a) (kept_is ∙ ap (λ e. kept is_link_once e) known)
-      ∙ ap (λ k. with_entry k index (kept is_link_once (entry_of k index))) before.keys
-      ∙ ap (λ i. with_entry (entered old.keys signature) i (kept is_link_once (entry_of (entered old.keys signature) i))) before.index_is;
+      ∙ ap (λ k. with_entry k index (kept is_link_once (entry_named_as k index))) before.keys
+      ∙ ap (λ i. with_entry (entered old.keys signature) i (kept is_link_once (entry_named_as (entered old.keys signature) i))) before.index_is;
   dropped_is =
       dropped_is
       ∙ ap (λ e. is_kept is_link_once e) known
-      ∙ ap (λ k. is_kept is_link_once (entry_of k index)) before.keys
-      ∙ ap (λ i. is_kept is_link_once (entry_of (entered old.keys signature) i)) before.index_is;
-  most = ap (λ (t : Table). t.most) new_is ∙ before.most;
-  most_further = ap (λ (t : Table). t.most_further) new_is ∙ before.most_further;
+      ∙ ap (λ k. is_kept is_link_once (entry_named_as k index)) before.keys
+      ∙ ap (λ i. is_kept is_link_once (entry_named_as (entered old.keys signature) i)) before.index_is;
+  most = ap (λ (t : KeyList). t.most) new_is ∙ before.most;
+  most_further = ap (λ (t : KeyList). t.most_further) new_is ∙ before.most_further;
 }
 
-pub section_noted : (old now new : Table) (name : List ℕ) (index : ℕ) (entry after : KeyEntry) → Entered old now name index
-    → entry ≡ entry_of now.keys index → after ≡ record entry { is_section = true } → new ≡ record now { keys = with_entry now.keys index after }
+pub section_noted : (old now new : KeyList) (name : List ℕ) (index : ℕ) (entry after : KeyEntry) → Entered old now name index
+    → entry ≡ entry_named_as now.keys index → after ≡ record entry { is_section = true } → new ≡ record now { keys = with_entry now.keys index after }
     → NotedSection old new name
 unfolding name_noted
 section_noted old now new name index entry after before known noted_is new_is =
     let noted : KeyEntry → KeyEntry = λ e. record e { is_section = true } in
     record {
       keys =
-          ap (λ (t : Table). t.keys) new_is
+          ap (λ (t : KeyList). t.keys) new_is
           ∙ ap (λ a. with_entry now.keys index a) (noted_is ∙ ap noted known)
-          ∙ ap (λ k. with_entry k index (noted (entry_of k index))) before.keys
-          ∙ ap (λ i. with_entry (entered old.keys name) i (noted (entry_of (entered old.keys name) i))) before.index_is;
-      most = ap (λ (t : Table). t.most) new_is ∙ before.most;
-      most_further = ap (λ (t : Table). t.most_further) new_is ∙ before.most_further;
+          ∙ ap (λ k. with_entry k index (noted (entry_named_as k index))) before.keys
+          ∙ ap (λ i. with_entry (entered old.keys name) i (noted (entry_named_as (entered old.keys name) i))) before.index_is;
+      most = ap (λ (t : KeyList). t.most) new_is ∙ before.most;
+      most_further = ap (λ (t : KeyList). t.most_further) new_is ∙ before.most_further;
     }
 
 -- a name used
-pub name_used_by : (old now new : Table) (name : List ℕ) (index : ℕ) (symbol : SymbolUse) (row : Option ℕ) → Entered old now name index
+pub name_used_by : (old now new : KeyList) (name : List ℕ) (index : ℕ) (symbol : SymbolUse) (row : Option ℕ) → Entered old now name index
     → new ≡ record now { keys = key_used now.keys index symbol row } → UsedName old new name symbol row
 unfolding name_used
 name_used_by old now new name index symbol row before new_is = record {
   keys =
-      ap (λ (t : Table). t.keys) new_is
+      ap (λ (t : KeyList). t.keys) new_is
       ∙ ap (λ k. key_used k index symbol row) before.keys
       ∙ ap (λ i. key_used (entered old.keys name) i symbol row) before.index_is;
-  most = ap (λ (t : Table). t.most) new_is ∙ before.most;
-  most_further = ap (λ (t : Table). t.most_further) new_is ∙ before.most_further;
+  most = ap (λ (t : KeyList). t.most) new_is ∙ before.most;
+  most_further = ap (λ (t : KeyList). t.most_further) new_is ∙ before.most_further;
 }

@@ -2,7 +2,7 @@
 use Rattle.std.specs.Prelude.{◌≡◌, ℕ, Bool, true, false, List, [], ◌∷◌, None}
 use Rattle.elf_model.specs.LinkInputs.{InputFile, OpenArchive, opened_at}
 use Rattle.elf_model.specs.LinkInputs.InputFile.{ObjectFile, SearchedFile, WholeFile, MissingFile}
-use Rattle.elf_model.specs.LinkKeys.{LinkKeys, entry_of}
+use Rattle.elf_model.specs.LinkKeys.{LinkKeys, entry_named_as}
 use Rattle.elf_model.specs.LinkObjects.{LinkObject, ObjectSymbol}
 use Rattle.elf_model.specs.LinkPasses.{is_new}
 use Rattle.elf_model.specs.declared.link_states.KeyState.{KeyState}
@@ -22,14 +22,14 @@ is_unasked _ = false
 
 -- no key has been asked for that is in such a state: so it is while no shared definition is removed
 abbrev pub AskedAreKnown : LinkKeys → Type 0
-AskedAreKnown keys = (i : ℕ) → is_unasked (entry_of keys i).state ≡ true → (entry_of keys i).is_asked ≡ false
+AskedAreKnown keys = (i : ℕ) → is_unasked (entry_named_as keys i).state ≡ true → (entry_named_as keys i).is_asked ≡ false
 
 -- NOTHING NEW IS ASKED FOR: a key that is undefined was so before; one that is gone stays so; and one
 -- that no symbol has had none before
 pub record IsQuiet (before after : LinkKeys) : Type 0 where
-  pub undefined : (i : ℕ) → (entry_of after i).state ≡ Undefined → (entry_of before i).state ≡ Undefined
-  pub gone : (i : ℕ) → (entry_of before i).is_gone ≡ true → (entry_of after i).is_gone ≡ true
-  pub new : (i : ℕ) → is_new (entry_of after i).state ≡ true → is_new (entry_of before i).state ≡ true
+  pub undefined : (i : ℕ) → (entry_named_as after i).state ≡ Undefined → (entry_named_as before i).state ≡ Undefined
+  pub gone : (i : ℕ) → (entry_named_as before i).is_gone ≡ true → (entry_named_as after i).is_gone ≡ true
+  pub new : (i : ℕ) → is_new (entry_named_as after i).state ≡ true → is_new (entry_named_as before i).state ≡ true
 
 -- an input whose objects have symbols of default visibility alone
 abbrev pub AreUnrestrictedIn : List (ℕ × LinkObject) → Type 0

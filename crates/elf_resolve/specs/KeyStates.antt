@@ -1,7 +1,7 @@
 -- The states of keys in their order, and what the symbols of one name make of them.
 use Rattle.std.specs.Prelude.{◌≡◌, ℕ, ◌==◌, ◌||◌, ◌&&◌, nat_lt, if◌then◌else◌, Bool, false, List, [], ◌∷◌, None, bytes_eq}
 use Rattle.elf_model.specs.LinkKeys.{LinkSymbol}
-use Rattle.elf_model.specs.LinkSteps.{state_after, state_change}
+use Rattle.elf_model.specs.LinkSteps.{key_state_after, state_change}
 use Rattle.elf_model.specs.declared.link_states.KeyState.{KeyState}
 use Rattle.elf_model.specs.declared.link_states.KeyState.TheVariants.{New, Weak, Undefined, WeakDefined, Defined, Shared}
 use Rattle.elf_model.specs.declared.link_states.KeyState.TheVariants as state
@@ -10,7 +10,7 @@ use Rattle.elf_model.specs.declared.link_states.SymbolRole.TheVariants as role
 
 -- the state of a key after a symbol, and after some
 abbrev pub after : KeyState → SymbolRole → KeyState
-after before r = state_after before (state_change before r)
+after before r = key_state_after before (state_change before r)
 
 abbrev pub after_all : KeyState → List SymbolRole → KeyState
 after_all before [] = before
@@ -44,22 +44,22 @@ rank (state.Common size) = 4
 rank Defined = 5
 rank (Shared symbol) = 6
 
-abbrev pub size_of : KeyState → ℕ
-size_of (state.Common size) = size
-size_of _ = 0
+abbrev pub common_size : KeyState → ℕ
+common_size (state.Common size) = size
+common_size _ = 0
 
-abbrev pub is_above : KeyState → KeyState → Bool
-is_above a b = nat_lt (rank b) (rank a) || ((rank a == rank b) && nat_lt (size_of b) (size_of a))
+abbrev pub is_above_state : KeyState → KeyState → Bool
+is_above_state a b = nat_lt (rank b) (rank a) || ((rank a == rank b) && nat_lt (common_size b) (common_size a))
 
 -- a symbol of an object, of default visibility, without a default version
-pub record IsPlain (s : LinkSymbol) : Type 0 where
+pub record IsPlainState (s : LinkSymbol) : Type 0 where
   pub one_name : s.default_name ≡ None
   pub unrestricted : s.symbol.restricted ≡ false
   pub own : IsOwn s.symbol.role
 
 abbrev pub ArePlain : List LinkSymbol → Type 0
 ArePlain [] = Unit {0}
-ArePlain (s ∷ symbols) = IsPlain s × ArePlain symbols
+ArePlain (s ∷ symbols) = IsPlainState s × ArePlain symbols
 
 -- what the symbols of one name are
 abbrev pub roles_of : List ℕ → List LinkSymbol → List SymbolRole

@@ -3,7 +3,7 @@ use Rattle.std.specs.Prelude.{ℕ, ◌≡◌, ◌+◌, ◌≤◌, ◌<◌, ◌^�
 use Rattle.std.specs.Borrow.{Bor}
 use Rattle.std.specs.List.{count_by}
 use Rattle.std.specs.Map.{lookup}
-use Rattle.elf_model.specs.LinkKeys.{LinkKeys, entered, entry_of, further_after, index_of, key_in, key_used}
+use Rattle.elf_model.specs.LinkKeys.{LinkKeys, entered, entry_named_as, further_after, key_index, key_in, key_used}
 use Rattle.elf_model.specs.LinkObjects.{is_kept, name_noted, signature_kept}
 use Rattle.elf_model.specs.declared.link_states.FurtherDefinition.{FurtherDefinition}
 use Rattle.elf_model.specs.declared.link_states.KeyEntry.{KeyEntry}
@@ -13,20 +13,20 @@ use Rattle.elf_resolve.specs.declared.table.KeyFault.TheVariants.{TooManyKeys, T
 
 -- the keys; how many there is room for; for how many bytes of further names; and for how many further
 -- definitions
-pub record Table : Type 0 where
+pub record KeyList : Type 0 where
   pub keys : LinkKeys
   pub most : ℕ
   pub room : ℕ
   pub most_further : ℕ
 
 -- the place of each name in the map is the first one among the names
-abbrev pub Finds : List (Bor (List ℕ) × ℕ) → List (List ℕ) → Type 0
-Finds entries names = (q : List ℕ) → lookup (λ k. bytes_eq q k.now) entries ≡ key_in names q
+abbrev pub FindsKeys : List (Bor (List ℕ) × ℕ) → List (List ℕ) → Type 0
+FindsKeys entries names = (q : List ℕ) → lookup (λ k. bytes_eq q k.now) entries ≡ key_in names q
 
 -- a map, names and entries hold the same keys, there is room for the others, and the counts are those
 -- of the entries
 pub record Holds (places : List (Bor (List ℕ) × ℕ)) (names : List (List ℕ)) (entries : List KeyEntry) (count ordered asked most names_room entries_room order_room spare_places further most_further further_room : ℕ) : Type 0 where
-  pub finds : Finds places names
+  pub finds : FindsKeys places names
   pub paired : length entries ≡ count
   pub within : count ≤ most
   pub names_fit : most ≤ names_room
@@ -40,7 +40,7 @@ pub record Holds (places : List (Bor (List ℕ) × ℕ)) (names : List (List ℕ
   pub further_fit : most_further ≤ further_room
 
 -- why a name can't be entered
-abbrev pub IsFull : Table → List ℕ → KeyFault → Type 0
+abbrev pub IsFull : KeyList → List ℕ → KeyFault → Type 0
 IsFull table name TooManyKeys = length table.keys.names ≡ table.most
 IsFull table name TooManyBytes = (length table.keys.names < table.most) × (table.room < length name)
 IsFull table name TooManyFurther = ⊥
@@ -54,21 +54,21 @@ unfoldable pub fresh : LinkKeys → List ℕ → List ℕ
 fresh keys name = fresh_or (key_in keys.names name) name
 
 -- a name was entered, if it is new: its bytes are taken off the room
-pub record Entered (old new : Table) (name : List ℕ) (index : ℕ) : Type 0 where
+pub record Entered (old new : KeyList) (name : List ℕ) (index : ℕ) : Type 0 where
   pub keys : new.keys ≡ entered old.keys name
-  pub index_is : index ≡ index_of old.keys name
+  pub index_is : index ≡ key_index old.keys name
   pub most : new.most ≡ old.most
   pub most_further : new.most_further ≡ old.most_further
   pub room : new.room + length (fresh old.keys name) ≡ old.room
 
 -- it is new and there is no room: nothing changes
-pub record NotEntered (old new : Table) (name : List ℕ) (fault : KeyFault) : Type 0 where
+pub record NotEntered (old new : KeyList) (name : List ℕ) (fault : KeyFault) : Type 0 where
   pub same : new ≡ old
   pub absent : key_in old.keys.names name ≡ None
   pub full : IsFull old name fault
 
 -- A NAME ENTERED
-abbrev pub Enters : Table → Table → List ℕ → Result ℕ KeyFault → Type 0
+abbrev pub Enters : KeyList → KeyList → List ℕ → Result ℕ KeyFault → Type 0
 Enters old new name (Ok index) = Entered old new name index
 Enters old new name (Err fault) = NotEntered old new name fault
 
@@ -87,25 +87,25 @@ AddsFurther old new most definition is_one (Ok done) = AddedFurther old new most
 AddsFurther old new most definition is_one (Err fault) = NotAddedFurther old new most fault
 
 -- a key was not used: it is defined once more, and there is no room
-pub record NotUsed (old new : Table) (index : ℕ) (symbol : SymbolUse) (fault : KeyFault) : Type 0 where
+pub record NotUsed (old new : KeyList) (index : ℕ) (symbol : SymbolUse) (fault : KeyFault) : Type 0 where
   pub same : new ≡ old
   pub fault_is : fault ≡ TooManyFurther
   pub full : length old.keys.further ≡ old.most_further
 
 -- A KEY USED by a symbol of a row
-abbrev pub UsesKey : Table → Table → (index : ℕ) → SymbolUse → (row : Option ℕ) → Result (Unit {0}) KeyFault → Type 0
+abbrev pub UsesKey : KeyList → KeyList → (index : ℕ) → SymbolUse → (row : Option ℕ) → Result (Unit {0}) KeyFault → Type 0
 UsesKey old new index symbol row (Ok done) = new ≡ record old { keys = key_used old.keys index symbol row }
 UsesKey old new index symbol row (Err fault) = NotUsed old new index symbol fault
 
 -- A GROUP KEPT, or dropped
-pub record KeptGroup (old new : Table) (signature : List ℕ) (is_link_once dropped : Bool) : Type 0 where
-  pub keys : new.keys ≡ signature_kept (entered old.keys signature) (index_of old.keys signature) is_link_once
-  pub dropped_is : dropped ≡ is_kept is_link_once (entry_of (entered old.keys signature) (index_of old.keys signature))
+pub record KeptGroup (old new : KeyList) (signature : List ℕ) (is_link_once dropped : Bool) : Type 0 where
+  pub keys : new.keys ≡ signature_kept (entered old.keys signature) (key_index old.keys signature) is_link_once
+  pub dropped_is : dropped ≡ is_kept is_link_once (entry_named_as (entered old.keys signature) (key_index old.keys signature))
   pub most : new.most ≡ old.most
   pub most_further : new.most_further ≡ old.most_further
 
 -- A SECTION NOTED at the key of its name
-pub record NotedSection (old new : Table) (name : List ℕ) : Type 0 where
+pub record NotedSection (old new : KeyList) (name : List ℕ) : Type 0 where
   pub keys : new.keys ≡ name_noted old.keys name
   pub most : new.most ≡ old.most
   pub most_further : new.most_further ≡ old.most_further

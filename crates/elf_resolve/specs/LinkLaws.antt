@@ -2,19 +2,19 @@
 use Rattle.std.specs.Prelude.{◌≡◌, ◌⊎◌, ◌<◌, ℕ, Contains, true, false, List, [], Option, length}
 use Rattle.std.specs.List.Sorted.{IsPermutation}
 use Rattle.elf_model.specs.LinkInputs.{IndexSymbol, InputFile, LinkInputs, Linking, group_settled, index_entered, inputs_again, linked, rounds_made, untaken_in}
-use Rattle.elf_model.specs.LinkKeys.{LinkKeys, LinkSymbol, entry_named, entry_of, symbols_taken}
+use Rattle.elf_model.specs.LinkKeys.{LinkKeys, LinkSymbol, entry_named, entry_named_as, symbols_taken}
 use Rattle.elf_model.specs.LinkPasses.{ArchivePass, LinkArchive, archive_searched, asks_for, is_taken, key_of_entry, member_taken, passes_made, untaken}
 use Rattle.elf_model.specs.declared.link_states.IndexEntry.{IndexEntry}
 use Rattle.elf_model.specs.declared.link_states.KeyState.TheVariants.{New, Undefined}
 use Rattle.elf_model.specs.declared.link_states.SymbolRole.{SymbolRole}
 use Rattle.elf_resolve.specs.KeyOrders.{AreDistinctInputs, AreUnrestricted, AskedAreKnown, IsUnrestricted}
-use Rattle.elf_resolve.specs.KeyStates.{AreOwn, ArePlain, after_all, alone, is_above, roles_of}
+use Rattle.elf_resolve.specs.KeyStates.{AreOwn, ArePlain, after_all, alone, is_above_state, roles_of}
 
 -- ONE STATE COMES FROM ANOTHER BY TAKING MEMBERS, each of which was not taken, and for an entry of the
 -- index whose key asked for it just before
 pub data Reaches (archive : LinkArchive) (entries : List IndexEntry) : ArchivePass → ArchivePass → Type 0 where
   Stays : (pass : ArchivePass) → Reaches archive entries pass pass
-  Takes : (pass end : ArchivePass) (entry : IndexEntry) → Contains entries entry → asks_for archive.members pass.keys entry ≡ true → is_taken pass.taken entry.member ≡ false
+  TakesMembers : (pass end : ArchivePass) (entry : IndexEntry) → Contains entries entry → asks_for archive.members pass.keys entry ≡ true → is_taken pass.taken entry.member ≡ false
       → Reaches archive entries (member_taken archive pass entry) end → Reaches archive entries pass end
 
 -- members of an archive that is searched are taken only so
@@ -24,7 +24,7 @@ MembersAreAskedFor = (archive : LinkArchive) (entries : List IndexEntry) (pass :
 -- the state that symbols of objects make of a key is not below what any of them makes alone, and one
 -- of them makes it alone, unless there are none
 abbrev pub StateIsLargest : Type 0
-StateIsLargest = (roles : List SymbolRole) → AreOwn roles → ((r : SymbolRole) → Contains roles r → is_above (alone r) (after_all New roles) ≡ false)
+StateIsLargest = (roles : List SymbolRole) → AreOwn roles → ((r : SymbolRole) → Contains roles r → is_above_state (alone r) (after_all New roles) ≡ false)
     × ((after_all New roles ≡ New) ⊎ ((r : SymbolRole) × Contains roles r × (after_all New roles ≡ alone r)))
 
 -- whatever their order
@@ -42,7 +42,7 @@ NamesAreApart = (row : Option ℕ) (keys : LinkKeys) (symbols : List LinkSymbol)
 abbrev pub NoneIsLeft : Type 0
 NoneIsLeft = (archive : LinkArchive) (entries : List IndexEntry) (pass : ArchivePass) (entry : IndexEntry)
     → ((member : ℕ) → AreUnrestricted (archive.members.objects member).symbols) → AskedAreKnown pass.keys → Contains entries entry
-    → (let end = archive_searched archive entries pass in let known = entry_of end.keys (key_of_entry end.keys entry) in
+    → (let end = archive_searched archive entries pass in let known = entry_named_as end.keys (key_of_entry end.keys entry) in
     known.state ≡ Undefined → known.is_gone ≡ false → is_taken end.taken entry.member ≡ true)
 
 -- and so it is of the keys of any link of such inputs, of which an archive may then be searched
@@ -60,7 +60,7 @@ SearchIsLeast = (archive : LinkArchive) (entries : List IndexEntry) (pass : Arch
 abbrev pub OffersCameBefore : Type 0
 OffersCameBefore = (archive : LinkArchive) (entries : List IndexEntry) (pass : ArchivePass) (entry : IndexEntry)
     → ((member : ℕ) → AreUnrestricted (archive.members.objects member).symbols) → AskedAreKnown pass.keys → Contains entries entry
-    → (let end = archive_searched archive entries pass in let known = entry_of end.keys (key_of_entry end.keys entry) in
+    → (let end = archive_searched archive entries pass in let known = entry_named_as end.keys (key_of_entry end.keys entry) in
     is_taken end.taken entry.member ≡ false → known.is_gone ≡ false → known.state ≡ Undefined → ⊥)
 
 -- a group is its inputs again until a round asks for nothing new: no more rounds than members change

@@ -2,7 +2,7 @@
 use Rattle.std.specs.Prelude.{ℕ, ◌≡◌, ◌≤◌, List, Bool, Some}
 use Rattle.elf_model.specs.LinkObjects.{LinkObject, object_taken}
 use Rattle.elf_model.specs.LinkPasses.{ArchiveMembers, ArchivePass, LinkArchive, untaken}
-use Rattle.elf_resolve.specs.KeyTables.{Table}
+use Rattle.elf_resolve.specs.KeyTables.{KeyList}
 use Rattle.elf_resolve.specs.declared.passes.ArchiveInput.{ArchiveInput}
 use Rattle.elf_resolve.specs.declared.passes.Link.{Link}
 
@@ -11,11 +11,11 @@ abbrev pub pass_of : Link → List Bool → ArchivePass
 pass_of link taken = record { keys = link.keys.keys; rows = link.rows.rows; taken = taken }
 
 -- an archive by its members
-abbrev pub archive_of : ArchiveInput → ArchiveMembers → LinkArchive
-archive_of archive members = record { input = archive.input; row = archive.row; members = members }
+abbrev pub searched_archive : ArchiveInput → ArchiveMembers → LinkArchive
+searched_archive archive members = record { input = archive.input; row = archive.row; members = members }
 
 -- an object was taken, of a row
-pub record TookObject (object : LinkObject) (old new : Table) (row : ℕ) : Type 0 where
+pub record TookObject (object : LinkObject) (old new : KeyList) (row : ℕ) : Type 0 where
   pub keys : new.keys ≡ object_taken (Some row) old.keys object
   pub most : new.most ≡ old.most
   pub most_further : new.most_further ≡ old.most_further

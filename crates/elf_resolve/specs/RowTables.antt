@@ -3,21 +3,21 @@ use Rattle.std.specs.Prelude.{ℕ, ◌≡◌, ◌≤◌, ◌<◌, ◌^◌, List,
 use Rattle.elf_model.specs.declared.link_states.LinkRow.{LinkRow}
 
 -- the rows, and how many there is room for
-pub record Rows : Type 0 where
+pub record LinkRows : Type 0 where
   pub rows : List LinkRow
   pub most : ℕ
 
-pub record HoldsRows (count most room : ℕ) : Type 0 where
+pub record KeepsLinkRows (count most room : ℕ) : Type 0 where
   pub within : count ≤ most
   pub fit : most ≤ room
   pub indexed : most < 2 ^ 32
 
 -- A ROW ADDED: its index is the number of those before it
-pub record AddedRow (old new : Rows) (row : LinkRow) (index : ℕ) : Type 0 where
+pub record AddedRow (old new : LinkRows) (row : LinkRow) (index : ℕ) : Type 0 where
   pub rows : new.rows ≡ old.rows ++ row ∷ []
   pub most : new.most ≡ old.most
   pub index_is : index ≡ length old.rows
 
-abbrev pub AddsRow : Rows → Rows → LinkRow → Option ℕ → Type 0
+abbrev pub AddsRow : LinkRows → LinkRows → LinkRow → Option ℕ → Type 0
 AddsRow old new row (Some index) = AddedRow old new row index
 AddsRow old new row None = (new ≡ old) × (length old.rows ≡ old.most)

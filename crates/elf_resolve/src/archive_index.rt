@@ -57,7 +57,7 @@ pub(crate) fn read_index<S: Source>(
         let Some(member) = member_at(members_from(&tables.members, first), offset) else {
             return refused(at, LinkCause::IndexMember);
         };
-        let entry = entry_of(strings, name, member, at, keys)?;
+        let entry = entry_named_as(strings, name, member, at, keys)?;
         tables.add_entry(entry, at)?;
     }
     Ok(())
@@ -159,7 +159,7 @@ fn entry_name(
 ///
 /// # Errors
 /// There is no room for them.
-fn entry_of(
+fn entry_named_as(
     strings: &mut StringBuffer,
     name: HeldText,
     member: u32,

@@ -138,7 +138,7 @@ pub(crate) fn members_from(members: &[u64], first: usize) -> &[u64] {
 
 /// Returns the index of the member whose header is at an offset, of members in the order of their
 /// offsets.
-pub(crate) fn member_at(members: &[u64], offset: u64) -> Option<u32> {
+pub(crate) fn archive_member(members: &[u64], offset: u64) -> Option<u32> {
     let mut low = 0;
     let mut high = members.len();
     for _ in 0..64 {

@@ -8,7 +8,7 @@ use elf_format::{
     Columns, Json, LineBuf, LinePrefix, Render, begin, begin_named, put_closing, put_decimal,
     put_hex_field, put_name_or_decimal, put_text, show_named,
 };
-use elf_model::{Format, KeyEntry, KeyState, LinkRefusal, LinkRow, RowKind};
+use elf_model::{Format, KeyEntry, KeyState, LinkRefusal, LinkRow, LinkRowKind};
 use elf_source::{Out, OutFault, Sink};
 
 /// How lines are written.
@@ -34,7 +34,7 @@ pub fn show_link<F: LinkFiles, W: Sink>(
 ) -> Result<u8, OutFault> {
     match style.format {
         Format::Object => show_all::<F, W, Json>(link, files, style.problems, out),
-        Format::Columns | Format::Table => {
+        Format::Columns | Format::KeyList => {
             show_all::<F, W, Columns>(link, files, style.problems, out)
         }
     }
@@ -74,7 +74,7 @@ fn show_rows<F: LinkFiles, W: Sink, R: Render>(
     for (index, row) in link.link.rows.rows().iter().enumerate() {
         let index = u32::try_from(index).unwrap_or(u32::MAX);
         let word = row_word(link, index, row);
-        if matches!(row.kind, RowKind::Missing) {
+        if matches!(row.kind, LinkRowKind::Missing) {
             status = 1;
         }
         if !problems || word == "missing" || word == "refused" || link.is_in_problem(index) {
@@ -92,14 +92,14 @@ fn row_word(link: &Resolver<'_>, index: u32, row: &LinkRow) -> &'static str {
         }
     }
     match row.kind {
-        RowKind::Object => "object",
-        RowKind::Shared => "shared",
-        RowKind::Unneeded => "unneeded",
-        RowKind::Same => "same",
-        RowKind::Archive => "archive",
-        RowKind::Member => "member",
-        RowKind::Missing => "missing",
-        RowKind::Refused => "refused",
+        LinkRowKind::Object => "object",
+        LinkRowKind::Shared => "shared",
+        LinkRowKind::Unneeded => "unneeded",
+        LinkRowKind::Same => "same",
+        LinkRowKind::Archive => "archive",
+        LinkRowKind::Member => "member",
+        LinkRowKind::Missing => "missing",
+        LinkRowKind::Refused => "refused",
     }
 }
 

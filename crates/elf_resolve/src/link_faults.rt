@@ -66,7 +66,7 @@ pub fn link_cause_word(cause: LinkCause) -> &'static str {
         LinkCause::FileType => "type",
         LinkCause::Machine => "machine",
         LinkCause::Lto => "lto",
-        LinkCause::Script => "script",
+        LinkCause::ScriptFault => "script",
         LinkCause::IndexCut => "index-cut",
         LinkCause::IndexMember => "index-member",
         LinkCause::NoIndex => "no-index",

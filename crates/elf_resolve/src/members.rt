@@ -10,7 +10,7 @@ use crate::string_buffer::{HeldText, StringBuffer, split_version};
 use elf_archive::{FileRange, MEMBER_HEADER_BYTES};
 use elf_model::{IndexEntry, LinkCause};
 use elf_record::{Cause, Sym};
-use crate::passes::Objects;
+use crate::passes::ArchiveObjects;
 use crate::table::{KeyTable, LinkStop};
 use elf_source::{Counted, RangeSource, Source};
 use elf_table::{HeaderStore, SectionView};
@@ -59,7 +59,7 @@ impl<S: Source> ArchiveMembers<'_, S> {
         Ok(!NO_FILES.iter().any(|name| header.starts_with(name)))
     }
 
-    /// Takes a member.
+    /// TakesMembers a member.
     ///
     /// # Errors
     /// Those of its header, its name and the object.
@@ -122,7 +122,7 @@ fn narrow_to<S: Source>(
     Ok(())
 }
 
-impl<S: Source> Objects for ArchiveMembers<'_, S> {
+impl<S: Source> ArchiveObjects for ArchiveMembers<'_, S> {
     ghost members = { unknown_members };
     ghost known = { λ s. ⊥ };
 

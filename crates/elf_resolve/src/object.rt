@@ -55,7 +55,7 @@ pub(crate) struct LinkObject<'v> {
     pub sections: Option<HeldText>,
 }
 
-/// Takes the section groups and the symbols of an object, which has the row `row`.
+/// TakesMembers the section groups and the symbols of an object, which has the row `row`.
 ///
 /// # Errors
 /// The first fault of its headers, its tables, its groups, the names of its sections or its
@@ -75,7 +75,7 @@ pub(crate) fn take_object<S: Source>(
     take_into(src, &mut headers.store(), strings, marks, keys, row)
 }
 
-/// Takes an object, with its section headers in a store.
+/// TakesMembers an object, with its section headers in a store.
 ///
 /// # Errors
 /// Those of [`take_object`].

@@ -1,11 +1,11 @@
 //! The members of an archive that its index asks for.
 ghost use Rattle.std.specs.Prelude.{◌≡◌, IfOk, OnOk};
 ghost use Rattle.elf_model.specs.LinkPasses.{ArchiveMembers, archive_searched, asks_for as asks_by, entry_visited, index_name, index_passed, is_new as is_new_of, is_taken as is_taken_of, key_of_entry as key_of, member_row as row_of};
-ghost use Rattle.elf_resolve.specs.Passing.{Moved, TookObject, archive_of, pass_of};
+ghost use Rattle.elf_resolve.specs.Passing.{Moved, TookObject, searched_archive, pass_of};
 
 use crate::rows::RowTable;
 use crate::table::{KeyTable, LinkStop};
-use elf_model::{IndexEntry, KeyState, LinkRow, RowKind, RowReason};
+use elf_model::{IndexEntry, KeyState, LinkRow, LinkRowKind, RowReason};
 
 /// What the files of a link make: its keys and its rows.
 #[derive(Drop)]
@@ -27,12 +27,12 @@ pub struct ArchiveInput {
 
 /// The objects that are the members of an archive. What is promised of them is promised if they are
 /// `known`.
-pub trait Objects {
+pub trait ArchiveObjects {
     ghost members: { Self → ArchiveMembers };
 
     ghost known: { Self → Type 0 };
 
-    /// Takes the groups and the symbols of a member, which has the row `row`.
+    /// TakesMembers the groups and the symbols of a member, which has the row `row`.
     ///
     /// # Errors
     /// Returns a `LinkStop` if the member can't be read, or there is no room for a key.
@@ -88,7 +88,7 @@ fn is_taken(taken: &[bool], member: u32) -> bool
 /// # Errors
 /// Returns a `LinkStop` if the member can't be read.
 #[tactic(auto, unfolding(elf_model::specs::LinkPasses::asks_for))]
-fn asks_for<'a, M: Objects>(
+fn asks_for<'a, M: ArchiveObjects>(
     keys: &KeyTable<'a>,
     entry: IndexEntry,
     members: &mut M,
@@ -112,7 +112,7 @@ fn member_row<'a>(archive: ArchiveInput, keys: &KeyTable<'a>, entry: IndexEntry)
 {
     let key = key_of_entry(keys, entry);
     LinkRow {
-        kind: RowKind::Member,
+        kind: LinkRowKind::Member,
         input: archive.input,
         archive: Some(archive.row),
         member: Some(entry.member),
@@ -123,11 +123,11 @@ fn member_row<'a>(archive: ArchiveInput, keys: &KeyTable<'a>, entry: IndexEntry)
     }
 }
 
-/// Takes the member of an entry, if the entry's key asks for it.
+/// TakesMembers the member of an entry, if the entry's key asks for it.
 ///
 /// # Errors
 /// Returns a `LinkStop` if the member can't be taken.
-pub fn visit_entry<'a, M: Objects>(
+pub fn visit_entry<'a, M: ArchiveObjects>(
     link: &mut Link<'a>,
     archive: ArchiveInput,
     taken: &mut [bool],
@@ -136,7 +136,7 @@ pub fn visit_entry<'a, M: Objects>(
 ) -> Result<(), LinkStop>
     ensures moves { OnOk result (Moved (pass_of link.old taken.old) (pass_of link.new taken.new)) }
     ensures visits { M.known members.old → OnOk result (pass_of link.new taken.new
-        ≡ entry_visited (archive_of archive (M.members members.old)) (pass_of link.old taken.old)
+        ≡ entry_visited (searched_archive archive (M.members members.old)) (pass_of link.old taken.old)
         entry) }
     ensures same { M.members members.new ≡ M.members members.old }
     ensures known { M.known members.old → M.known members.new }
@@ -160,7 +160,7 @@ pub fn visit_entry<'a, M: Objects>(
 ///
 /// # Errors
 /// Returns a `LinkStop` if a member can't be taken.
-pub fn pass_index<'a, M: Objects>(
+pub fn pass_index<'a, M: ArchiveObjects>(
     link: &mut Link<'a>,
     archive: ArchiveInput,
     taken: &mut [bool],
@@ -169,7 +169,7 @@ pub fn pass_index<'a, M: Objects>(
 ) -> Result<(), LinkStop>
     ensures moves { OnOk result (Moved (pass_of link.old taken.old) (pass_of link.new taken.new)) }
     ensures passes { M.known members.old → OnOk result (pass_of link.new taken.new
-        ≡ index_passed (archive_of archive (M.members members.old)) (pass_of link.old taken.old)
+        ≡ index_passed (searched_archive archive (M.members members.old)) (pass_of link.old taken.old)
         entries.now) }
     ensures same { M.members members.new ≡ M.members members.old }
     ensures known { M.known members.old → M.known members.new }
@@ -185,7 +185,7 @@ pub fn pass_index<'a, M: Objects>(
 ///
 /// # Errors
 /// Returns a `LinkStop` if a member can't be taken.
-pub fn search_archive<'a, M: Objects>(
+pub fn search_archive<'a, M: ArchiveObjects>(
     link: &mut Link<'a>,
     archive: ArchiveInput,
     taken: &mut [bool],
@@ -193,7 +193,7 @@ pub fn search_archive<'a, M: Objects>(
     members: &mut M,
 ) -> Result<(), LinkStop>
     ensures searches { M.known members.old → OnOk result (pass_of link.new taken.new
-        ≡ archive_searched (archive_of archive (M.members members.old)) entries.now
+        ≡ archive_searched (searched_archive archive (M.members members.old)) entries.now
         (pass_of link.old taken.old)) }
     ensures same { M.members members.new ≡ M.members members.old }
     ensures known { M.known members.old → M.known members.new }

@@ -9,7 +9,7 @@ use crate::linker_names::LinkOutput;
 use crate::members::ArchiveMembers;
 use crate::object::take_object;
 use crate::room::{LinkCaps, LinkRoom};
-use elf_model::{LinkCause, LinkRefusal, LinkRow, RowKind, SymbolRole, SymbolUse};
+use elf_model::{LinkCause, LinkRefusal, LinkRow, LinkRowKind, SymbolRole, SymbolUse};
 use crate::passes::{ArchiveInput, Link, search_archive};
 use crate::rows::RowTable;
 use crate::table::{KeyTable, LinkStop};
@@ -115,7 +115,7 @@ impl<'a> Resolver<'a> {
         }
     }
 
-    /// Takes all inputs in their order. The first refusal of a file ends that, and is kept.
+    /// TakesMembers all inputs in their order. The first refusal of a file ends that, and is kept.
     ///
     /// # Errors
     /// A file cannot be opened or read.
@@ -206,7 +206,7 @@ impl<'a> Resolver<'a> {
         group.first
     }
 
-    /// Takes an input, or what is left of it in a further round.
+    /// TakesMembers an input, or what is left of it in a further round.
     ///
     /// # Errors
     /// The first fault of the input.
@@ -236,7 +236,7 @@ impl<'a> Resolver<'a> {
         }
     }
 
-    /// Takes an input for the first time.
+    /// TakesMembers an input for the first time.
     ///
     /// # Errors
     /// The first fault of the input.
@@ -249,12 +249,12 @@ impl<'a> Resolver<'a> {
         self.set_state(index, InputState::Done);
         match input.kind {
             InputKind::Missing => {
-                self.add_row(RowKind::Missing, index)?;
+                self.add_row(LinkRowKind::Missing, index)?;
                 Ok(())
             }
             InputKind::BadScript => {
-                self.add_row(RowKind::Refused, index)?;
-                refused(0, LinkCause::Script)
+                self.add_row(LinkRowKind::Refused, index)?;
+                refused(0, LinkCause::ScriptFault)
             }
             InputKind::Object | InputKind::Shared | InputKind::Archive => {
                 let mut src = self.open(files, index)?;
@@ -290,7 +290,7 @@ impl<'a> Resolver<'a> {
         self.left = src.left();
     }
 
-    /// Takes the file of an input.
+    /// TakesMembers the file of an input.
     ///
     /// # Errors
     /// The first fault of the file.
@@ -303,7 +303,7 @@ impl<'a> Resolver<'a> {
         match input.kind {
             InputKind::Archive => self.take_archive(src, input.is_whole, index),
             _ => {
-                let row = self.add_row(RowKind::Object, index)?;
+                let row = self.add_row(LinkRowKind::Object, index)?;
                 take_object(src, &mut self.room, &mut self.link.keys, row)
             }
         }
@@ -313,7 +313,7 @@ impl<'a> Resolver<'a> {
     ///
     /// # Errors
     /// `TooManyRows` at 0 if there is no room for it.
-    fn add_row(&mut self, kind: RowKind, input: u32) -> Result<u32, LinkFault> {
+    fn add_row(&mut self, kind: LinkRowKind, input: u32) -> Result<u32, LinkFault> {
         let row = LinkRow {
             kind,
             input,
@@ -340,7 +340,7 @@ impl<'a> Resolver<'a> {
         is_whole: bool,
         input: u32,
     ) -> Result<(), LinkFault> {
-        let row = self.add_row(RowKind::Archive, input)?;
+        let row = self.add_row(LinkRowKind::Archive, input)?;
         let first = self.tables.members.len();
         let entries = self.tables.entries.len();
         let names = self.tables.walk(src)?;
@@ -382,7 +382,7 @@ impl<'a> Resolver<'a> {
         taken
     }
 
-    /// Takes the members of an archive that its index asks for.
+    /// TakesMembers the members of an archive that its index asks for.
     ///
     /// # Errors
     /// The first fault of a member that is taken.
@@ -432,7 +432,7 @@ impl<'a> Resolver<'a> {
         Err(fault)
     }
 
-    /// Takes all members of an archive that are files, in order.
+    /// TakesMembers all members of an archive that are files, in order.
     ///
     /// # Errors
     /// The first fault of a member.
@@ -448,7 +448,7 @@ impl<'a> Resolver<'a> {
         Ok(())
     }
 
-    /// Takes a member of an archive, if it is a file.
+    /// TakesMembers a member of an archive, if it is a file.
     ///
     /// # Errors
     /// The first fault of the member.
@@ -500,7 +500,7 @@ struct SearchEnd {
     asked: Option<u32>,
 }
 
-/// Takes the members of an archive that its index asks for.
+/// TakesMembers the members of an archive that its index asks for.
 fn search_members<S: Source>(
     link: &mut Link<'_>,
     room: &mut LinkRoom,
@@ -546,7 +546,7 @@ fn range_of<T>(elements: &[T], range: (usize, usize)) -> &[T] {
     }
 }
 
-/// Returns the elements from an index to another, to be changed; none if there are not so many.
+/// Returns the elements from an index to another, to be key_changed; none if there are not so many.
 fn range_of_mut(elements: &mut [bool], range: (usize, usize)) -> &mut [bool] {
     match elements.split_at_mut_checked(range.1) {
         Some((front, _)) => match front.split_at_mut_checked(range.0) {
@@ -560,7 +560,7 @@ fn range_of_mut(elements: &mut [bool], range: (usize, usize)) -> &mut [bool] {
 /// Returns the row of a member that is taken for no key.
 fn member_row(archive: LinkArchive, member: u32) -> LinkRow {
     LinkRow {
-        kind: RowKind::Member,
+        kind: LinkRowKind::Member,
         input: archive.input,
         archive: Some(archive.row),
         member: Some(member),

@@ -15,13 +15,13 @@ pub struct RowTable {
 
 impl Model for RowTable {
     ghost use Rattle.std.specs.Prelude.{◌≤◌, ◌<◌, ◌^◌, length, vec_capacity};
-    ghost use Rattle.elf_resolve.specs.RowTables.{HoldsRows, Rows};
+    ghost use Rattle.elf_resolve.specs.RowTables.{KeepsLinkRows, LinkRows};
 
-    ghost Value = { Rows };
+    ghost Value = { LinkRows };
 
     ghost view = { λ t. record { rows = t.rows.items; most = t.most } };
 
-    ghost invariant = { λ t. HoldsRows (length t.rows.items) t.most (vec_capacity t.rows) };
+    ghost invariant = { λ t. KeepsLinkRows (length t.rows.items) t.most (vec_capacity t.rows) };
 }
 
 impl RowTable {

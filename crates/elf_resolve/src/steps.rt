@@ -1,6 +1,6 @@
 //! What a symbol makes of its key.
 ghost use Rattle.std.specs.Prelude.{◌≡◌};
-ghost use Rattle.elf_model.specs.LinkKeys.{asks_after as asked_by, change_of as change_in, changed as changed_to, first_row as first_of, is_further as is_further_of, is_same_value as same_value, is_shared as shared_role, noted as noted_by, prepared as prepared_for, references_by as referenced_by, removed as removed_from, used as used_by};
+ghost use Rattle.elf_model.specs.LinkKeys.{asks_after as asked_by, key_change as change_in, key_changed as changed_to, first_row as first_of, is_further as is_further_of, is_same_value as same_value, is_shared as shared_role, noted as noted_by, prepared as prepared_for, references_by as referenced_by, removed as removed_from, used as used_by};
 ghost use Rattle.elf_model.specs.LinkSteps.{common_over, defined_over, ends_at as ends_of, is_absolute as absolute_kind, shared_over, state_change as change_by, weak_over};
 
 use elf_model::{
@@ -13,11 +13,11 @@ fn state_change(state: KeyState, role: SymbolRole) -> StateChange
 {
     match role {
         SymbolRole::WeakReference => match state {
-            KeyState::New => StateChange::Becomes(KeyState::Weak),
+            KeyState::New => StateChange::BecomesState(KeyState::Weak),
             _ => StateChange::Stays,
         },
         SymbolRole::Reference => match state {
-            KeyState::New | KeyState::Weak => StateChange::Becomes(KeyState::Undefined),
+            KeyState::New | KeyState::Weak => StateChange::BecomesState(KeyState::Undefined),
             _ => StateChange::Stays,
         },
         SymbolRole::Common(size) => common_change(state, size),
@@ -35,9 +35,9 @@ fn weak_change(state: KeyState) -> StateChange
         KeyState::Common(_) | KeyState::WeakDefined | KeyState::Defined => StateChange::Stays,
         KeyState::Shared(symbol) => match symbol.kind {
             SharedKind::Absolute => StateChange::Stays,
-            _ => StateChange::Becomes(KeyState::WeakDefined),
+            _ => StateChange::BecomesState(KeyState::WeakDefined),
         },
-        _ => StateChange::Becomes(KeyState::WeakDefined),
+        _ => StateChange::BecomesState(KeyState::WeakDefined),
     }
 }
 
@@ -50,14 +50,14 @@ fn defined_change(state: KeyState) -> StateChange
         KeyState::Shared(symbol) => match symbol.kind {
             SharedKind::Absolute => {
                 if symbol.weak {
-                    StateChange::Becomes(KeyState::Defined)
+                    StateChange::BecomesState(KeyState::Defined)
                 } else {
                     StateChange::Multiple
                 }
             }
-            _ => StateChange::Becomes(KeyState::Defined),
+            _ => StateChange::BecomesState(KeyState::Defined),
         },
-        _ => StateChange::Becomes(KeyState::Defined),
+        _ => StateChange::BecomesState(KeyState::Defined),
     }
 }
 
@@ -68,24 +68,24 @@ fn common_change(state: KeyState, size: u64) -> StateChange
     match state {
         KeyState::Common(other) => {
             if other < size {
-                StateChange::Becomes(KeyState::Common(size))
+                StateChange::BecomesState(KeyState::Common(size))
             } else {
                 StateChange::Stays
             }
         }
         KeyState::Defined => StateChange::Stays,
         KeyState::Shared(symbol) => match symbol.kind {
-            SharedKind::Function => StateChange::Becomes(KeyState::Common(size)),
-            SharedKind::NoBits(other) => StateChange::Becomes(KeyState::Common(size.max(other))),
+            SharedKind::Function => StateChange::BecomesState(KeyState::Common(size)),
+            SharedKind::NoBits(other) => StateChange::BecomesState(KeyState::Common(size.max(other))),
             _ => {
                 if symbol.weak {
-                    StateChange::Becomes(KeyState::Common(size))
+                    StateChange::BecomesState(KeyState::Common(size))
                 } else {
                     StateChange::Stays
                 }
             }
         },
-        _ => StateChange::Becomes(KeyState::Common(size)),
+        _ => StateChange::BecomesState(KeyState::Common(size)),
     }
 }
 
@@ -95,7 +95,7 @@ fn shared_change(state: KeyState, symbol: SharedDefinition) -> StateChange
 {
     match state {
         KeyState::New | KeyState::Weak | KeyState::Undefined => {
-            StateChange::Becomes(KeyState::Shared(symbol))
+            StateChange::BecomesState(KeyState::Shared(symbol))
         }
         KeyState::Common(size) => {
             if symbol.weak {
@@ -110,7 +110,7 @@ fn shared_change(state: KeyState, symbol: SharedDefinition) -> StateChange
                         StateChange::Stays
                     }
                 }
-                _ => StateChange::Becomes(KeyState::Shared(symbol)),
+                _ => StateChange::BecomesState(KeyState::Shared(symbol)),
             }
         }
         _ => StateChange::Stays,
@@ -118,7 +118,7 @@ fn shared_change(state: KeyState, symbol: SharedDefinition) -> StateChange
 }
 
 /// Returns whether a definition ends at a key in a state: then the key without the version is not
-/// changed either.
+/// key_changed either.
 pub fn ends_at(state: KeyState, role: SymbolRole) -> bool
     ensures { result ≡ ends_of state role }
 {
@@ -177,7 +177,7 @@ fn removed(is_asked: bool, state: KeyState) -> KeyState
 
 /// Returns what a symbol changes in an entry's state. A key that an object's symbol restricts takes
 /// no shared definition.
-pub fn change_of(entry: KeyEntry, symbol: SymbolUse) -> StateChange
+pub fn key_change(entry: KeyEntry, symbol: SymbolUse) -> StateChange
     ensures { result ≡ change_in entry symbol }
 {
     if entry.is_restricted && is_shared(symbol.role) {
@@ -205,7 +205,7 @@ fn asks_after(before: KeyState, made: KeyState) -> bool
 }
 
 /// Returns the entry after a change of its state by a symbol of a row.
-fn changed(entry: KeyEntry, symbol: SymbolUse, row: Option<u32>, change: StateChange) -> KeyEntry
+fn key_changed(entry: KeyEntry, symbol: SymbolUse, row: Option<u32>, change: StateChange) -> KeyEntry
     ensures { result ≡ changed_to entry symbol row change }
 {
     match change {
@@ -214,7 +214,7 @@ fn changed(entry: KeyEntry, symbol: SymbolUse, row: Option<u32>, change: StateCh
             state: KeyState::Common(size),
             ..entry
         },
-        StateChange::Becomes(state) => KeyEntry {
+        StateChange::BecomesState(state) => KeyEntry {
             state,
             row,
             absolute: symbol.absolute,
@@ -281,7 +281,7 @@ pub fn used(entry: KeyEntry, symbol: SymbolUse, row: Option<u32>) -> KeyEntry
     ensures { result ≡ used_by entry symbol row }
 {
     let before = prepared(entry, symbol);
-    let after = changed(before, symbol, row, change_of(before, symbol));
+    let after = key_changed(before, symbol, row, key_change(before, symbol));
     noted(with_reference(after, symbol, row), symbol, row)
 }
 
@@ -300,7 +300,7 @@ pub fn is_further(entry: KeyEntry, symbol: SymbolUse) -> bool
     ensures { result ≡ is_further_of entry symbol }
 {
     let before = prepared(entry, symbol);
-    match change_of(before, symbol) {
+    match key_change(before, symbol) {
         StateChange::Multiple => !is_same_value(before.absolute, symbol.absolute),
         _ => false,
     }

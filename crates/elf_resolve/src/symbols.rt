@@ -1,7 +1,7 @@
 //! The symbols of a file.
 ghost use Rattle.std.specs.Prelude.{◌≡◌, OnOk, map};
 ghost use Rattle.elf_model.specs.LinkKeys.{entry_named as named_entry};
-ghost use Rattle.elf_resolve.specs.Symbols.{TookSymbol, TookSymbols, UsedName, symbol_of};
+ghost use Rattle.elf_resolve.specs.Symbols.{TookSymbol, TookSymbols, UsedName, symbol_record};
 
 use crate::steps::{ends_at, prepared};
 use crate::table::{KeyFault, KeyTable, NEW_KEY};
@@ -47,12 +47,12 @@ impl<'a> KeyTable<'a> {
         Ok(())
     }
 
-    /// Takes a symbol of a row.
+    /// TakesMembers a symbol of a row.
     ///
     /// # Errors
     /// Returns a `KeyFault` if there is no room.
     pub fn take(&mut self, symbol: Symbol, row: Option<u32>) -> Result<(), KeyFault>
-        ensures { OnOk result (TookSymbol self.old self.new (symbol_of symbol.entry) row) }
+        ensures { OnOk result (TookSymbol self.old self.new (symbol_record symbol.entry) row) }
     {
         let entry = self.entry_named(symbol.name);
         self.use_name(symbol.name, symbol.symbol, row)?;
@@ -66,12 +66,12 @@ impl<'a> KeyTable<'a> {
         Ok(())
     }
 
-    /// Takes the symbols of a file in order.
+    /// TakesMembers the symbols of a file in order.
     ///
     /// # Errors
     /// Returns a `KeyFault` if there is no room.
     pub fn take_symbols(&mut self, symbols: &[Symbol], row: Option<u32>) -> Result<(), KeyFault>
-        ensures { OnOk result (TookSymbols self.old self.new (map symbol_of symbols.now) row) }
+        ensures { OnOk result (TookSymbols self.old self.new (map symbol_record symbols.now) row) }
     {
         for i in 0..symbols.len() {
             self.take(symbols[i], row)?;

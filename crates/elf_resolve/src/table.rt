@@ -1,6 +1,6 @@
 //! The table of keys.
 ghost use Rattle.std.specs.Prelude.{◌≡◌, ◌+◌, ◌<◌, ◌≤◌, ◌^◌, false, vec_capacity, IfOk, OnOk, length, [], get_or};
-ghost use Rattle.elf_model.specs.LinkKeys.{asked_after as asked_of, entry_of, key_in, no_keys, order_after, with_entry};
+ghost use Rattle.elf_model.specs.LinkKeys.{references_after as asked_of, entry_named_as, key_in, no_keys, order_after, with_entry};
 ghost use Rattle.elf_model.specs.LinkObjects.{is_kept as is_kept_at, kept as kept_at};
 ghost use Rattle.elf_resolve.specs.KeyTables.{AddsFurther, Enters, KeptGroup, NotedSection, UsesKey};
 
@@ -67,9 +67,9 @@ pub struct KeyTable<'a> {
 impl<'a> Model for KeyTable<'a> {
     ghost use Rattle.std.specs.Prelude.{map, length, vec_capacity};
     ghost use Rattle.std.specs.HashMap.{spare};
-    ghost use Rattle.elf_resolve.specs.KeyTables.{Holds, Table};
+    ghost use Rattle.elf_resolve.specs.KeyTables.{Holds, KeyList};
 
-    ghost Value = { Table };
+    ghost Value = { KeyList };
 
     ghost view = { λ t. record {
       keys = record {
@@ -176,7 +176,7 @@ impl<'a> KeyTable<'a> {
 
     /// Returns what is known of a key.
     pub fn entry(&self, index: u32) -> KeyEntry
-        ensures { result ≡ entry_of self.now.keys index }
+        ensures { result ≡ entry_named_as self.now.keys index }
     {
         match self.entries.get(index as usize) {
             Some(entry) => *entry,
@@ -232,7 +232,7 @@ impl<'a> KeyTable<'a> {
         )?;
         add_order(&mut self.order, index, entry.is_met);
         let after = used(entry, symbol, row);
-        self.asked = asked_after(self.asked, entry, after);
+        self.asked = references_after(self.asked, entry, after);
         self.entries[place] = after;
         Ok(())
     }
@@ -271,11 +271,11 @@ impl<'a> KeyTable<'a> {
         Ok(is_kept(is_link_once, entry))
     }
 
-    /// Sets what is known of a key, except what is counted.
+    /// Sets what is known of a key, except what is symbol_counts.
     fn set_entry(&mut self, index: u32, entry: KeyEntry)
         requires within { index < length self.old.keys.names }
-        requires same_met { entry.is_met ≡ (entry_of self.old.keys index).is_met }
-        requires same_asked { entry.is_asked ≡ (entry_of self.old.keys index).is_asked }
+        requires same_met { entry.is_met ≡ (entry_named_as self.old.keys index).is_met }
+        requires same_asked { entry.is_asked ≡ (entry_named_as self.old.keys index).is_asked }
         ensures { self.new ≡ record self.old { keys = with_entry self.old.keys index entry } }
     {
         self.entries[index as usize] = entry;
@@ -357,7 +357,7 @@ fn add_order(order: &mut Vec<u32>, index: u32, is_met: bool)
 }
 
 /// Returns how many keys have been asked for after a change of one.
-fn asked_after(asked: usize, before: KeyEntry, after: KeyEntry) -> usize
+fn references_after(asked: usize, before: KeyEntry, after: KeyEntry) -> usize
     requires { asked < 2 ^ 32 }
     ensures { result ≡ asked_of asked before after }
 {

@@ -1,7 +1,7 @@
 -- The entries that were read are no more than those of the table.
 use Rattle.std.proofs.Common.{◌≡◌, ℕ, ◌+◌, ◌≤◌}
 use Rattle.elf_note.proofs.EntriesLoop.{GoesOver}
-use Rattle.elf_image.proofs.dynamic_rows.image_rows.Given as goal
+use Rattle.elf_image.proofs.image_rows_of.image_rows.Given as goal
 
 abbrev pub invariant-entries : goal.invariant-entries
 invariant-entries g l = record {

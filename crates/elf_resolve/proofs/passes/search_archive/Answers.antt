@@ -5,7 +5,7 @@ use Rattle.elf_resolve.proofs.passes.search_archive.Goals as goal
 
 pub returns-then-asked-before-clause-searches : goal.returns-then-asked-before-clause-searches
 returns-then-asked-before-clause-searches g c known =
-    last_pass c.args.archive _ _ (g.M.Objects.members c.pass_index.new.members) _ _ (g.M.Objects.known c.pass_index.new.members) _ _ (pass_of c.pass_index.new.link c.pass_index.new.taken) c.args.entries.now
+    last_pass c.args.archive _ _ (g.M.ArchiveObjects.members c.pass_index.new.members) _ _ (g.M.ArchiveObjects.known c.pass_index.new.members) _ _ (pass_of c.pass_index.new.link c.pass_index.new.taken) c.args.entries.now
     c.loop.invariant c.in_ok-pass_index.ensures.passes (sym c.asked.ensures ∙ c.if-asked-before.true ∙ c.asked-before.ensures) known
 
 pub loop-smaller : goal.loop-smaller
@@ -14,5 +14,5 @@ loop-smaller g c =
 
 pub loop-preserved : goal.loop-preserved
 loop-preserved g c =
-    another c.args.archive _ _ _ _ _ (g.M.Objects.known c.pass_index.new.members) _ _ (pass_of c.pass_index.new.link c.pass_index.new.taken) c.args.entries.now c.loop.invariant c.pass_index.ensures.same
+    another c.args.archive _ _ _ _ _ (g.M.ArchiveObjects.known c.pass_index.new.members) _ _ (pass_of c.pass_index.new.link c.pass_index.new.taken) c.args.entries.now c.loop.invariant c.pass_index.ensures.same
     c.pass_index.ensures.known c.in_ok-pass_index.ensures.passes (λ same. c.if-asked-before.false (c.asked.ensures ∙ same ∙ sym c.asked-before.ensures))

@@ -3,22 +3,22 @@ use Rattle.std.specs.Prelude.{Some}
 use Rattle.elf_model.specs.LinkKeys.{LinkKeys}
 use Rattle.elf_model.specs.LinkObjects.{object_taken}
 use Rattle.elf_model.specs.LinkPasses.{ArchiveMembers}
-use Rattle.elf_resolve.specs.Passing.{archive_of, pass_of}
+use Rattle.elf_resolve.specs.Passing.{searched_archive, pass_of}
 use Rattle.elf_resolve.proofs.PassLaws.{visited_again, visited_takes, visited_unasked}
 use Rattle.elf_resolve.proofs.PassingLaws.{member_by}
 use Rattle.elf_resolve.proofs.passes.visit_entry.Goals as goal
 
 pub returns-then-is_taken-clause-visits : goal.returns-then-is_taken-clause-visits
 returns-then-is_taken-clause-visits g c known =
-    sym (visited_again (archive_of c.args.archive (g.M.Objects.members c.args.members.now)) (pass_of c.args.link.now c.args.taken.now) c.args.entry (sym c.is_taken.ensures ∙ c.if-is_taken.true))
+    sym (visited_again (searched_archive c.args.archive (g.M.ArchiveObjects.members c.args.members.now)) (pass_of c.args.link.now c.args.taken.now) c.args.entry (sym c.is_taken.ensures ∙ c.if-is_taken.true))
 
 pub returns-then-not-branch-clause-visits : goal.returns-then-not-branch-clause-visits
 returns-then-not-branch-clause-visits g c known =
-    sym (visited_unasked (archive_of c.args.archive (g.M.Objects.members c.args.members.now)) (pass_of c.args.link.now c.args.taken.now) c.args.entry (sym (c.in_ok-asks_for.ensures.asks known) ∙ c.if-not-branch.true))
+    sym (visited_unasked (searched_archive c.args.archive (g.M.ArchiveObjects.members c.args.members.now)) (pass_of c.args.link.now c.args.taken.now) c.args.entry (sym (c.in_ok-asks_for.ensures.asks known) ∙ c.if-not-branch.true))
 
 pub returns-clause-visits : goal.returns-clause-visits
 returns-clause-visits g c known =
-    let archive = archive_of c.args.archive (g.M.Objects.members c.args.members.now) in
+    let archive = searched_archive c.args.archive (g.M.ArchiveObjects.members c.args.members.now) in
     let held = pass_of c.args.link.now c.args.taken.now in
     let added = c.in-Some.ensures in
     let taken = c.in_ok-take.ensures.takes (c.asks_for.ensures.known known) in

@@ -3,7 +3,7 @@ use Rattle.std.specs.Prelude.{None}
 use Rattle.std.proofs.lemmas.List.{length-map, map-append}
 use Rattle.elf_model.specs.LinkKeys.{LinkKeys, key_in, new_key}
 use Rattle.elf_model.specs.declared.link_states.KeyEntry.{KeyEntry}
-use Rattle.elf_resolve.specs.KeyTables.{Finds, Table}
+use Rattle.elf_resolve.specs.KeyTables.{FindsKeys, KeyList}
 use Rattle.elf_resolve.proofs.ListLaws.{count_by_push}
 use Rattle.elf_resolve.proofs.TableLaws.{finds_more, known, new_name}
 use Rattle.elf_resolve.proofs.table.KeyTable.enter.Goals as goal
@@ -37,10 +37,10 @@ invariant_of-self c =
     let more = ap length items ∙ length-append names (c.keep-kept.result ∷ []) in
     let more_states = ap length states ∙ length-append entries (new_key ∷ []) in
     let missing : key_in (map (λ n. n.now) names) c.keep-kept.result.now ≡ None =
-    rw (c.keep-kept.ensures.kept) (subst (λ (t : Table). key_in t.keys.names c.args.name.now ≡ None) (sym c.self.view_is) (absent c)) in
+    rw (c.keep-kept.ensures.kept) (subst (λ (t : KeyList). key_in t.keys.names c.args.name.now ≡ None) (sym c.self.view_is) (absent c)) in
     let updates = rw c.unwrap.ensures at c.insert-inserted.ensures.updates in
     record {
-      finds = subst (λ ns. Finds c.insert-inserted.new.self.entries ns) (sym (names_then c))
+      finds = subst (λ ns. FindsKeys c.insert-inserted.new.self.entries ns) (sym (names_then c))
           (finds_more _ _ _ _ c.len-index.result held.finds missing (next_is c) (λ q. updates.0 (record c.keep-kept.result { now = q })));
       paired = omega (arith, more, more_states, held.paired);
       within = omega (arith, more);
@@ -67,8 +67,8 @@ returns c =
     new_name _ _ _ _ (absent c)
     (ap (λ ns. keys_with (record { names = []; entries = []; order = c.self.inside.order.items; asked = c.self.inside.asked; further = c.self.inside.further.items }) ns c.push-2.new.self.items) names
     ∙ ap (λ es. keys_with (record { names = []; entries = []; order = c.self.inside.order.items; asked = c.self.inside.asked; further = c.self.inside.further.items }) (map (λ n. n.now) c.self.inside.names.items ++ c.args.name.now ∷ []) es) states
-    ∙ ap (λ (t : Table). record t.keys { names = t.keys.names ++ c.args.name.now ∷ []; entries = t.keys.entries ++ new_key ∷ [] }) was)
-    (next_is c ∙ ap (λ (t : Table). length t.keys.names) was)
-    (ap (λ (t : Table). t.most) was)
-    (ap (λ (t : Table). t.most_further) was)
-    (c.keep-kept.ensures.left ∙ ap (λ (t : Table). t.room) was)
+    ∙ ap (λ (t : KeyList). record t.keys { names = t.keys.names ++ c.args.name.now ∷ []; entries = t.keys.entries ++ new_key ∷ [] }) was)
+    (next_is c ∙ ap (λ (t : KeyList). length t.keys.names) was)
+    (ap (λ (t : KeyList). t.most) was)
+    (ap (λ (t : KeyList). t.most_further) was)
+    (c.keep-kept.ensures.left ∙ ap (λ (t : KeyList). t.room) was)

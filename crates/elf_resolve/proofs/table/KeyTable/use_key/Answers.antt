@@ -1,8 +1,8 @@
 use Rattle.std.proofs.Common.{◌≡◌, ◌<◌, length, length-set, get_or, arith, sym, ap, ◌∙◌}
-use Rattle.elf_model.specs.LinkKeys.{asked_after, new_key, order_after, used}
+use Rattle.elf_model.specs.LinkKeys.{references_after, new_key, order_after, used}
 use Rattle.elf_model.specs.declared.link_states.KeyEntry.{KeyEntry}
 use Rattle.std.proofs.lemmas.List.{length-map}
-use Rattle.elf_resolve.specs.KeyTables.{Table}
+use Rattle.elf_resolve.specs.KeyTables.{KeyList}
 use Rattle.elf_resolve.proofs.KeyLaws.{asked_counted, ordered, used_asked, used_met}
 use Rattle.elf_resolve.proofs.ListLaws.{count_by_less, get_or_either}
 use Rattle.elf_resolve.proofs.table.KeyTable.use_key.Goals as goal
@@ -10,7 +10,7 @@ use Rattle.elf_resolve.proofs.table.KeyTable.use_key.Goals as goal
 pub add_order-requires : goal.add_order-requires
 add_order-requires c not_met =
     let held = c.self.invariant in
-    let there : c.args.index < length c.self.inside.entries.items = omega (arith, held.paired, c.requires, ap (λ (t : Table). length t.keys.names) c.self.view_is, length-map c.self.inside.names.items (λ n. n.now)) in
+    let there : c.args.index < length c.self.inside.entries.items = omega (arith, held.paired, c.requires, ap (λ (t : KeyList). length t.keys.names) c.self.view_is, length-map c.self.inside.names.items (λ n. n.now)) in
     let entry : c.index-entry.result.now ≡ get_or c.self.inside.entries.items c.args.index new_key = c.index-entry.ensures ∙ get_or_either _ _ _ new_key there in
     omega (arith, count_by_less (λ (e : KeyEntry). e.is_met) c.self.inside.entries.items c.args.index new_key there (ap (λ (e : KeyEntry). e.is_met) (sym entry) ∙ not_met), held.met, held.paired, held.within, held.order_fits)
 
@@ -18,7 +18,7 @@ pub invariant_of-self-2 : goal.invariant_of-self-2
 invariant_of-self-2 c =
     let held = c.self.invariant in
     let entries = c.self.inside.entries.items in
-    let there : c.args.index < length entries = omega (arith, held.paired, c.requires, ap (λ (t : Table). length t.keys.names) c.self.view_is, length-map c.self.inside.names.items (λ n. n.now)) in
+    let there : c.args.index < length entries = omega (arith, held.paired, c.requires, ap (λ (t : KeyList). length t.keys.names) c.self.view_is, length-map c.self.inside.names.items (λ n. n.now)) in
     let entry : c.index-entry.result.now ≡ get_or entries c.args.index new_key = c.index-entry.ensures ∙ get_or_either _ _ _ new_key there in
     let after : c.used-after.result ≡ used (get_or entries c.args.index new_key) c.args.symbol c.args.row = c.used-after.ensures ∙ ap (λ (e : KeyEntry). used e c.args.symbol c.args.row) entry in
     record {
@@ -36,8 +36,8 @@ invariant_of-self-2 c =
           ∙ ordered entries c.self.inside.order.items c.args.index c.used-after.result there
           (ap (λ (e : KeyEntry). e.is_met) after ∙ used_met (get_or entries c.args.index new_key) c.args.symbol c.args.row) held.met;
       asks =
-          c.asked_after-self-inside.ensures
-          ∙ ap (λ (e : KeyEntry). asked_after c.self.inside.asked e c.used-after.result) entry
+          c.references_after-self-inside.ensures
+          ∙ ap (λ (e : KeyEntry). references_after c.self.inside.asked e c.used-after.result) entry
           ∙ asked_counted entries c.self.inside.asked c.args.index c.used-after.result there
           (λ was. ap (λ (e : KeyEntry). e.is_asked) after ∙ used_asked (get_or entries c.args.index new_key) c.args.symbol c.args.row was) held.asks;
       further_within = c.in_ok-add_further.ensures.adds.within;
