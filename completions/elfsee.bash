@@ -11,6 +11,7 @@ _elfsee_options() {
     find) set -- --headers --max-read --gnu --by-segments --json --table ;;
     apply) set -- --headers --max-read --layout --explain ;;
     bytes) set -- --headers --max-read --segment ;;
+    image) set -- --headers --max-read --layout --max-write --leave --missing ;;
     needs | deps) set -- --headers --max-read --max-tries --library-path --default --root --cache --no-cache --symbols --unused --problems --json --table --files0-from ;;
     traits | hardening) set -- --headers --max-read --require --json --table --files0-from ;;
     *) set -- ;;
@@ -96,9 +97,9 @@ _elfsee() {
         esac
     fi
     case $command in
-    '') mapfile -t COMPREPLY < <(compgen -W 'show sample find apply bytes check list traits needs archive explain version help' -- "$current") ;;
-    help) [[ $files != 0 ]] || mapfile -t COMPREPLY < <(compgen -W 'show sample find apply bytes check list traits needs archive explain version' -- "$current") ;;
-    show | find | bytes | archive) [[ $files != 0 ]] || _elfsee_files ;;
+    '') mapfile -t COMPREPLY < <(compgen -W 'show sample find apply bytes image check list traits needs archive explain version help' -- "$current") ;;
+    help) [[ $files != 0 ]] || mapfile -t COMPREPLY < <(compgen -W 'show sample find apply bytes image check list traits needs archive explain version' -- "$current") ;;
+    show | find | bytes | image | archive) [[ $files != 0 ]] || _elfsee_files ;;
     check | list | traits | hardening | needs | deps) _elfsee_files ;;
     apply)
         case $files in

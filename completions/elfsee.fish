@@ -1,6 +1,6 @@
 # Completion of elfsee for fish.
 
-set -l commands show sample find apply bytes check list traits needs archive explain version help
+set -l commands show sample find apply bytes image check list traits needs archive explain version help
 set -l listing '__fish_seen_subcommand_from show sample check list archive'
 set -l parts 'header\t"the file header"
 sections\t"the section headers"
@@ -40,7 +40,7 @@ end
 # Succeeds if the file is not named yet.
 function __elfsee_wants_file
     set -l plain (__elfsee_plain_words)
-    test (count $plain) -eq 1; and contains -- $plain[1] show find apply bytes archive; and return
+    test (count $plain) -eq 1; and contains -- $plain[1] show find apply bytes image archive; and return
     test (count $plain) -ge 1; and contains -- $plain[1] check list traits hardening needs deps
 end
 
@@ -62,6 +62,7 @@ complete -c elfsee -n "not __fish_seen_subcommand_from $commands" -a sample -d '
 complete -c elfsee -n "not __fish_seen_subcommand_from $commands" -a find -d 'look up a name in the hash table of a file'
 complete -c elfsee -n "not __fish_seen_subcommand_from $commands" -a apply -d 'write a section with its relocations applied'
 complete -c elfsee -n "not __fish_seen_subcommand_from $commands" -a bytes -d 'write the bytes of a section or of a segment'
+complete -c elfsee -n "not __fish_seen_subcommand_from $commands" -a image -d 'write a segment as a loader leaves it'
 complete -c elfsee -n "not __fish_seen_subcommand_from $commands" -a check -d 'check many files: which are malformed, where and why'
 complete -c elfsee -n "not __fish_seen_subcommand_from $commands" -a list -d 'list many files, whole or parts of each'
 complete -c elfsee -n "not __fish_seen_subcommand_from $commands" -a traits -d 'print how each of many files is hardened'
@@ -70,16 +71,16 @@ complete -c elfsee -n "not __fish_seen_subcommand_from $commands" -a archive -d 
 complete -c elfsee -n "not __fish_seen_subcommand_from $commands" -a explain -d 'print what causes and states mean'
 complete -c elfsee -n "not __fish_seen_subcommand_from $commands" -a version -d 'print the version of the program'
 complete -c elfsee -n "not __fish_seen_subcommand_from $commands" -a help -d 'print the commands and options'
-complete -c elfsee -n '__fish_seen_subcommand_from help; and test (count (commandline -opc)) -eq 2' -a 'show sample find apply bytes check list traits needs archive explain version'
+complete -c elfsee -n '__fish_seen_subcommand_from help; and test (count (commandline -opc)) -eq 2' -a 'show sample find apply bytes image check list traits needs archive explain version'
 complete -c elfsee -n __elfsee_wants_file -F
 complete -c elfsee -n __elfsee_wants_item -a at: -d 'the address of a section, at:INDEX=ADDR'
 complete -c elfsee -n __elfsee_wants_item -a def: -d 'the address of an undefined or common symbol, def:NAME=ADDR'
 complete -c elfsee -n __elfsee_wants_item -a plt: -d 'the address of an entry in the procedure linkage table, plt:NAME=ADDR'
 complete -c elfsee -n __elfsee_wants_item -a got: -d 'the address of an entry in the global offset table, got:NAME=ADDR'
 complete -c elfsee -n __elfsee_wants_item -a tpgot: -d 'the address of an entry there of an offset from the thread pointer, tpgot:NAME=ADDR'
-complete -c elfsee -n "__fish_seen_subcommand_from show sample find apply bytes check list traits needs archive; and __elfsee_lacks --headers" -l headers -x -d 'allow this many headers of each kind, 1 to 65279 [4096]'
+complete -c elfsee -n "__fish_seen_subcommand_from show sample find apply bytes image check list traits needs archive; and __elfsee_lacks --headers" -l headers -x -d 'allow this many headers of each kind, 1 to 65279 [4096]'
 complete -c elfsee -n "$listing; and __elfsee_lacks --names" -l names -x -d 'show at most this many bytes of a name, 1 to 4096 [256]'
-complete -c elfsee -n "__fish_seen_subcommand_from show sample find apply bytes check list traits needs archive; and __elfsee_lacks --max-read" -l max-read -x -d 'read at most this many bytes of the file'
+complete -c elfsee -n "__fish_seen_subcommand_from show sample find apply bytes image check list traits needs archive; and __elfsee_lacks --max-read" -l max-read -x -d 'read at most this many bytes of the file'
 complete -c elfsee -n "$listing; and __elfsee_lacks --only" -s o -l only -x -a $parts -d 'list one part'
 complete -c elfsee -n '__fish_seen_subcommand_from archive; and __elfsee_lacks --only' -s o -l only -x -a $members -d 'list one part'
 complete -c elfsee -n "$listing; and __elfsee_lacks --gnu" -s g -l gnu -d 'also name the numbers defined by GNU, and list symbol versions'
@@ -108,7 +109,10 @@ complete -c elfsee -n '__fish_seen_subcommand_from needs; and __elfsee_lacks --c
 complete -c elfsee -n '__fish_seen_subcommand_from needs; and __elfsee_lacks --no-cache' -l no-cache -d "do not search a loader's cache"
 complete -c elfsee -n '__fish_seen_subcommand_from check list; and __elfsee_lacks --members' -l members -d 'also read the members of archives'
 complete -c elfsee -n '__fish_seen_subcommand_from check list traits needs; and __elfsee_lacks --files0-from' -l files0-from -r -F -d 'also take the paths in a file, each ended by a NUL byte'
-complete -c elfsee -n '__fish_seen_subcommand_from apply; and __elfsee_lacks --layout' -l layout -r -F -d 'also take the items in a file, one per line'
+complete -c elfsee -n '__fish_seen_subcommand_from apply image; and __elfsee_lacks --layout' -l layout -r -F -d 'also take the items in a file, one per line'
 complete -c elfsee -n '__fish_seen_subcommand_from apply; and __elfsee_lacks --explain' -l explain -d 'if an address is missing, print the item that would help'
 complete -c elfsee -n '__fish_seen_subcommand_from bytes; and __elfsee_lacks --segment' -l segment -x -d 'write the bytes of the program header of this index'
+complete -c elfsee -n '__fish_seen_subcommand_from image; and __elfsee_lacks --max-write' -l max-write -x -d 'write at most this many bytes'
+complete -c elfsee -n '__fish_seen_subcommand_from image; and __elfsee_lacks --leave' -l leave -d 'let an entry that lacks an item change nothing'
+complete -c elfsee -n '__fish_seen_subcommand_from image; and __elfsee_lacks --missing' -l missing -d 'print the entries that lack an item'
 complete -c elfsee -s h -l help -d 'print the commands and options'

@@ -78,6 +78,11 @@ pub record AreOptions (rows : List Row) (args : CommandArgs) : Type 0 where
   pub symbols : args.symbols ≡ is_option_set (first_of (codes "symbols") rows)
   pub unused : args.unused ≡ is_option_set (first_of (codes "unused") rows)
   pub problems : args.problems ≡ is_option_set (first_of (codes "problems") rows)
+  pub image : option_map (λ text. text.now) args.image ≡ first_of (codes "SEGMENT") rows
+  pub image_index : HasPlace (first_of (codes "SEGMENT") rows) args.image_index
+  pub max_write : (value : Option ℕ) → HasNumber (one_of (codes "max-write") rows) value → args.max_write ≡ value
+  pub missing : args.missing ≡ is_option_set (first_of (codes "missing") rows)
+  pub leave : args.leave ≡ is_option_set (first_of (codes "leave") rows)
 
 -- a command with the values of its arguments
 abbrev pub AreArgs : Option (Text × List Row) → CommandArgs → Type 0

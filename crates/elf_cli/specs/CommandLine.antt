@@ -10,7 +10,7 @@ use Rattle.clap.specs.declared.builder.value_parser.ValueParser.{ValueParser}
 use Rattle.clap.specs.declared.builder.value_parser.ValueParser.TheVariants.{NonEmptyString, Signed, Unsigned}
 use Rattle.elf_cli.specs.declared.command_args.CommandName.{CommandName}
 use Rattle.elf_cli.specs.declared.command_args.CommandName.TheVariants as command
-use Rattle.elf_cli.specs.declared.command_sets.TheConstants.{SHOW, SAMPLE, FIND, APPLY, BYTES, CHECK, LIST, TRAITS, NEEDS, ARCHIVE, EXPLAIN, VERSION}
+use Rattle.elf_cli.specs.declared.command_sets.TheConstants.{SHOW, SAMPLE, FIND, APPLY, BYTES, IMAGE, CHECK, LIST, TRAITS, NEEDS, ARCHIVE, EXPLAIN, VERSION}
 
 -- an option that may also be given by a letter, as in -g
 abbrev pub by_letter : Text → Rule → Rule
@@ -58,7 +58,7 @@ any_words name = record (new_rule name) { range = Some (record { start_inclusive
 
 -- the commands that read the file that an argument names
 abbrev one_file : ℕ
-one_file = SHOW + FIND + APPLY + BYTES + ARCHIVE
+one_file = SHOW + FIND + APPLY + BYTES + IMAGE + ARCHIVE
 
 -- those that read many files
 abbrev many_files : ℕ
@@ -105,7 +105,10 @@ argument_rows =
     ∷ (selecting, flag (codes "dynamic"))
     ∷ (selecting, valued (codes "at"))
     ∷ (selecting, valued (codes "address"))
-    ∷ (APPLY, valued (codes "layout"))
+    ∷ (APPLY + IMAGE, valued (codes "layout"))
+    ∷ (IMAGE, option (codes "max-write") (Unsigned 0 9223372036854775807))
+    ∷ (IMAGE, flag (codes "leave"))
+    ∷ (IMAGE, flag (codes "missing"))
     ∷ (APPLY, flag (codes "explain"))
     ∷ (BYTES, option (codes "segment") (Unsigned 0 65535))
     ∷ (CHECK + LIST, flag (codes "members"))
@@ -114,6 +117,8 @@ argument_rows =
     ∷ (FIND, required (codes "NAME"))
     ∷ (APPLY, indexed (codes "SECTION") (Signed (pos 0) (pos 65535)))
     ∷ (BYTES, optional (codes "SECTION"))
+    ∷ (IMAGE, optional (codes "SEGMENT"))
+    ∷ (IMAGE, any_words (codes "ITEM"))
     ∷ (APPLY, any_words (codes "ITEM"))
     ∷ (many_files, any_words (codes "PATH"))
     ∷ (EXPLAIN, any_words (codes "CAUSE"))
@@ -131,6 +136,7 @@ command_rows =
     ∷ (codes "find", command.Find, FIND, [])
     ∷ (codes "apply", command.Apply, APPLY, [])
     ∷ (codes "bytes", command.Bytes, BYTES, [])
+    ∷ (codes "image", command.Image, IMAGE, [])
     ∷ (codes "check", command.Check, CHECK, [])
     ∷ (codes "list", command.List, LIST, [])
     ∷ (codes "traits", command.Traits, TRAITS, codes "hardening" ∷ [])

@@ -10,7 +10,7 @@ use Rattle.elf_cli.specs.Faults.{IsUnasked}
 use Rattle.elf_cli.specs.Options.{are_part_names}
 use Rattle.elf_cli.specs.declared.command_args.CommandArgs.{CommandArgs}
 use Rattle.elf_cli.specs.declared.command_args.CommandName.{CommandName}
-use Rattle.elf_cli.specs.declared.command_args.CommandName.TheVariants.{Show, Find, Apply, Bytes, Check, List as Listings, Traits, Needs, Archive}
+use Rattle.elf_cli.specs.declared.command_args.CommandName.TheVariants.{Show, Find, Apply, Bytes, Image, Check, List as Listings, Traits, Needs, Archive}
 use Rattle.elf_cli.specs.declared.faults.RequestFault.{RequestFault}
 use Rattle.elf_cli.specs.declared.faults.RequestFault.TheVariants as fault
 use Rattle.elf_cli.specs.declared.usage_faults.UsageFault.{UsageFault}
@@ -42,6 +42,7 @@ takes_file Show = true
 takes_file Find = true
 takes_file Apply = true
 takes_file Bytes = true
+takes_file Image = true
 takes_file Archive = true
 takes_file command = false
 

@@ -78,8 +78,8 @@ TablesAreLocated =
 
 -- a table is refused at the entry of its address if its size or the size of its rows is missing, at
 -- the entry of that if it is another, and at the entry of its size if that is not one of whole rows
-abbrev pub TablesAreRefused : Type 0
-TablesAreRefused =
+abbrev pub LocatedTablesAreRefused : Type 0
+LocatedTablesAreRefused =
     (located_listed true true (with_bytes 0x2d0 (little 8 99) located_library) ≡ codes "! 00000000000002c0 unmapped\n")
     × (located_listed true true (with_bytes 0x2e0 (little 8 99) located_library) ≡ codes "! 00000000000002c0 entry-size\n")
     × (located_listed true true (with_bytes 0x2e8 (little 8 16) located_library) ≡ codes "! 00000000000002e0 entry-size\n")
@@ -93,8 +93,8 @@ BytesAreRefused =
     × (located_listed true true (with_bytes 0x60 (little 8 0x1000) located_library) ≡ relative_rows ++ codes "! 0000000000000040 table-outside\n")
 
 -- a bitmap that no address precedes, a symbol that the table does not have, and one without a table
-abbrev pub EntriesAreRefused : Type 0
-EntriesAreRefused =
+abbrev pub LocatedEntriesAreRefused : Type 0
+LocatedEntriesAreRefused =
     (located_listed true true (with_bytes 0x150 (little 8 5) located_library) ≡ codes "! 0000000000000150 relr\n")
     × (located_listed true true (with_bytes 0x19c (little 4 12) located_library)
     ≡ relative_rows ++ unnamed_rows ++ codes "! 0000000000000190 symbol-index\n")

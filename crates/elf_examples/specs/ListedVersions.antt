@@ -1,5 +1,5 @@
 -- Worked examples of the rows of symbol versions.
-use Rattle.std.specs.Prelude.{◌≡◌, ℕ, ◌+◌, ◌-◌, ◌==◌, List, [], ◌∷◌, ◌++◌, length, drop, take, replicate, filter, codes, true, false}
+use Rattle.std.specs.Prelude.{◌≡◌, ◌*◌, ℕ, ◌+◌, ◌-◌, ◌==◌, List, [], ◌∷◌, ◌++◌, length, drop, take, replicate, filter, codes, true, false}
 use Rattle.std.specs.List.{concat}
 use Rattle.elf_model.specs.Prelude.{ALL, EveryRow, GNU_ALL, HEADER, ListingStyle, VERSIONS, cost, every_place, every_symbol, hostile_library, listing, listing_cost, little, one_table, report_of, standard, versioned_library, versioned_without_sections, with_bytes}
 use Rattle.elf_model.specs.declared.formats.Format.TheVariants.{Columns}

@@ -56,7 +56,7 @@ pub use fields::{
 };
 pub use interpreter_rows::show_interpreter;
 pub use lack_rows::show_missing;
-pub use lacking_rows::show_lacking;
+pub use lacking_rows::show_lacking_entry;
 pub use location_rows::{show_member_location, show_path_location};
 pub use lookup_rows::show_steps;
 pub use member_rows::member_prefix;

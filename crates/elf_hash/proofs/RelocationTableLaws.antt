@@ -8,13 +8,13 @@ use Rattle.elf_model.specs.declared.causes.Refusal.{Refusal}
 use Rattle.elf_model.specs.declared.relocation_tables.RelocationForm.{RelocationForm}
 use Rattle.elf_model.specs.declared.relocation_tables.RelocationTable.{RelocationTable}
 use Rattle.elf_model.proofs.CheckSteps.{first_refusal-none, first_refusal-some}
-use Rattle.elf_table.specs.Prelude.{RefusedBy, StringTableRange, TableRange, known_symbols, rest_mapped, strings, strings_in, strings_mapped}
+use Rattle.elf_table.specs.Prelude.{RefusedBy, StringTableRange, TableRange, symbols_linked, rest_mapped, strings, strings_in, strings_mapped}
 use Rattle.elf_table.specs.declared.fault.Fault.{Fault}
 use Rattle.elf_table.specs.declared.fault.Fault.TheVariants.{Refused, Source}
 use Rattle.elf_hash.specs.Prelude.{AreTableEntries, AreTaggedEntries, FindsSymbols, IsEntryOf, TellSymbols, dynamic_entry_at, located_by}
 use Rattle.elf_hash.specs.declared.dyn_entry.DynEntry.{DynEntry}
 use Rattle.elf_hash.specs.declared.dyn_entry.DynamicTags.{DynamicTags}
-use Rattle.elf_hash.specs.declared.relocation_tables.LocatedTable.{LocatedTable}
+use Rattle.elf_hash.specs.declared.relocation_tables.TableLocation.{TableLocation}
 use Rattle.elf_hash.specs.declared.relocation_tables.TableEntries.{TableEntries}
 use Rattle.elf_hash.proofs.SettleLaws.{checked_fails, checked_passes, passed_both, refused_back, refused_front}
 use Rattle.elf_hash.proofs.SegmentLaws.{IsRest, entry_passes, entry_refused, row_none, row_some}
@@ -63,7 +63,7 @@ module _ (file : List ℕ) (address size : DynEntry) (form : RelocationForm) (a 
   rows_found h names table m is =
       let p = checked_passes (mapped_checks file address.value size.value address.at) (strings (mapped_place file address.value size.value) size.value) names m in
       let rows_at : ℕ → TableRange = λ at. record { at = at; count = size.value / form_size form; entry = form_size form } in
-      let answer : TableRange → Result (Option LocatedTable) Fault = λ t. Ok (Some (record { form = form; table = t })) in
+      let answer : TableRange → Result (Option TableLocation) Fault = λ t. Ok (Some (record { form = form; table = t })) in
       let place : names.at ≡ mapped_place file address.value size.value = sym (ap (λ (s : StringTableRange). s.at) p.1) in
       let same : table ≡ record { at = mapped_place file address.value size.value; count = size.value / form_size form; entry = form_size form } =
       is ∙ ap rows_at place in
@@ -202,7 +202,7 @@ module _ (file : List ℕ) (at : ℕ) (found : DynamicTags) (symtab strtab strsz
 
     pub symbols_found : (names : StringTableRange) (rows : TableRange) → Ok names ≡ strings_mapped file strtab.value strsz.value strtab.at
         → rows ≡ record { at = table.at; count = table.count / 24; entry = 24 }
-        → located_symbols file at ≡ Ok (known_symbols file (Some (rows, names)))
+        → located_symbols file at ≡ Ok (symbols_linked file (Some (rows, names)))
     symbols_found names rows s is =
         let p = checked_passes (mapped_checks file strtab.value strsz.value strtab.at) (strings (mapped_place file strtab.value strsz.value) strsz.value) names s in
         let pass = passed_both (rest_checks file symtab.at) (mapped_checks file strtab.value strsz.value strtab.at) rest_is.0 p.0 in

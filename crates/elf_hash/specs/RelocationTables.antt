@@ -3,12 +3,12 @@ use Rattle.std.specs.Prelude.{ℕ, ◌≡◌, List, Option, None, Some, Result, 
 use Rattle.elf_model.specs.Prelude.{LocatedSymbols, LocatedTable as IsLocated, d_un, form_size, tagged_row, tags_of}
 use Rattle.elf_model.specs.declared.causes.Refusal.{Refusal}
 use Rattle.elf_model.specs.declared.relocation_tables.RelocationTable.{RelocationTable}
-use Rattle.elf_table.specs.Prelude.{StringTableRange, TableInBounds, TableRange, known_symbols}
+use Rattle.elf_table.specs.Prelude.{StringTableRange, TableInBounds, TableRange, symbols_linked}
 use Rattle.elf_table.specs.declared.fault.Fault.{Fault}
 use Rattle.elf_table.specs.declared.fault.Fault.TheVariants.{Refused, Source}
 use Rattle.elf_hash.specs.Entries.{dynamic_entry_at}
 use Rattle.elf_hash.specs.declared.dyn_entry.DynEntry.{DynEntry}
-use Rattle.elf_hash.specs.declared.relocation_tables.LocatedTable.{LocatedTable}
+use Rattle.elf_hash.specs.declared.relocation_tables.TableLocation.{TableLocation}
 use Rattle.elf_hash.specs.declared.relocation_tables.TableEntries.{TableEntries}
 
 -- an entry is one of the file
@@ -23,12 +23,12 @@ pub record AreTableEntries (file : List ℕ) (at : ℕ) (table : RelocationTable
   pub row : entries.row ≡ option_map (dynamic_entry_at file) (tagged_row file at (tags_of table).row)
 
 -- a table that lies within a source of this size, and has rows of its form
-pub record LocatedInBounds (size : ℕ) (found : LocatedTable) : Type 0 where
+pub record LocatedInBounds (size : ℕ) (found : TableLocation) : Type 0 where
   pub within : TableInBounds size found.table
   pub entry : found.table.entry ≡ form_size found.form
 
 -- the result for a table, as the definitions find it
-abbrev pub located_by : Result (Option IsLocated) Refusal → Result (Option LocatedTable) Fault
+abbrev pub located_by : Result (Option IsLocated) Refusal → Result (Option TableLocation) Fault
 located_by (Err refusal) = Err (Refused refusal)
 located_by (Ok None) = Ok None
 located_by (Ok (Some found)) =
@@ -36,6 +36,6 @@ located_by (Ok (Some found)) =
 
 -- the symbols, as the definitions find them
 abbrev pub FindsSymbols : List ℕ → Result (Option LocatedSymbols) Refusal → Result (Option (TableRange × StringTableRange)) Fault → Type 0
-FindsSymbols file symbols (Ok linked) = symbols ≡ Ok (known_symbols file linked)
+FindsSymbols file symbols (Ok linked) = symbols ≡ Ok (symbols_linked file linked)
 FindsSymbols file symbols (Err (Refused refusal)) = symbols ≡ Err refusal
 FindsSymbols file symbols (Err (Source fault at)) = ⊥

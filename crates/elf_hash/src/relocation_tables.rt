@@ -27,7 +27,7 @@ pub struct TableEntries {
 
 /// A table of relocations in the file.
 #[derive(Clone, Copy)]
-pub struct LocatedTable {
+pub struct TableLocation {
     /// What its rows are.
     pub form: RelocationForm,
     /// Its rows.
@@ -46,7 +46,7 @@ pub fn located_table(
     view: &ExecutionView<'_>,
     found: &DynamicTags,
     table: RelocationTable,
-) -> Result<Option<LocatedTable>, Fault>
+) -> Result<Option<TableLocation>, Fault>
     ensures { FindsIn HoldsProgramHeaders view.now.loaded view.now.store.now result
         (λ size found. IfSome found (LocatedInBounds size)) (λ bytes.
         (at : ℕ) → AreTaggedEntries bytes at found.now →
@@ -145,7 +145,7 @@ fn mapped_table(
     address: &DynEntry,
     size: &DynEntry,
     form: RelocationForm,
-) -> Result<Option<LocatedTable>, Fault>
+) -> Result<Option<TableLocation>, Fault>
     ensures { FindsIn HoldsProgramHeaders view.now.loaded view.now.store.now result
         (λ size found. IfSome found (LocatedInBounds size)) (λ bytes.
         IsEntryOf bytes address.now → IsEntryOf bytes size.now →
@@ -157,7 +157,7 @@ fn mapped_table(
     }
     let names = view.mapped(address.value, size.value, address.at)?;
     let table = Table::new(names.at(), size.value / row, row);
-    Ok(Some(LocatedTable { form, table }))
+    Ok(Some(TableLocation { form, table }))
 }
 
 /// Returns the symbols that the entries of a segment locate, all that are in the rest of their

@@ -6,7 +6,7 @@ use Rattle.elf_model.specs.ImageItems.{bytes_for}
 use Rattle.elf_model.specs.Placing.{address_in}
 use Rattle.elf_layout.specs.Prelude.{FindsKey}
 use Rattle.elf_layout.proofs.LayoutSteps.{address_in-hit, address_in-miss}
-use Rattle.elf_image.specs.Items.{bytes_from, copies_of, copy_bytes, copy_index, copy_size, of_kind, rank, rank_of}
+use Rattle.elf_image.specs.Items.{bytes_from, copies_of, copy_bytes, copy_index, copy_size, of_kind, item_rank, item_rank_of}
 use Rattle.elf_image.specs.declared.image_items.CopyBytes.{CopyBytes}
 use Rattle.elf_image.specs.declared.image_items.CopyItem.{CopyItem}
 use Rattle.elf_image.specs.declared.image_items.NumberItem.{NumberItem}
@@ -16,7 +16,7 @@ abbrev pub no_number : NumberItem
 no_number = record { kind = 0; key = 0; value = 0 }
 
 -- an item of another place in the order
-passed : (x : NumberItem) (xs : List NumberItem) (kind key : ℕ) → rank_of x ≢ rank kind key → address_in (of_kind kind (x ∷ xs)) key ≡ address_in (of_kind kind xs) key
+passed : (x : NumberItem) (xs : List NumberItem) (kind key : ℕ) → item_rank_of x ≢ item_rank kind key → address_in (of_kind kind (x ∷ xs)) key ≡ address_in (of_kind kind xs) key
 unfolding of_kind
 passed x xs kind key other = elim (cases_Bool (x.kind == kind)) [
   | inl same ↦
@@ -27,7 +27,7 @@ passed x xs kind key other = elim (cases_Bool (x.kind == kind)) [
 ]
 
 found_first : (items : List NumberItem) (kind key i : ℕ) (d : NumberItem) → i < length items → (get_or items i d).kind ≡ kind → (get_or items i d).key ≡ key
-    → ((k : ℕ) → k < i → rank_of (get_or items k d) ≢ rank kind key) → address_in (of_kind kind items) key ≡ Some (get_or items i d).value
+    → ((k : ℕ) → k < i → item_rank_of (get_or items k d) ≢ item_rank kind key) → address_in (of_kind kind items) key ≡ Some (get_or items i d).value
 unfolding of_kind
 found_first [] kind key i d within kinds keys none = absurd (omega (arith, within))
 found_first (x ∷ xs) kind key zero d within kinds keys none =
@@ -35,7 +35,7 @@ found_first (x ∷ xs) kind key zero d within kinds keys none =
 found_first (x ∷ xs) kind key (suc i) d within kinds keys none =
     passed x xs kind key (none 0 (omega arith)) ∙ found_first xs kind key i d (omega (arith, within)) kinds keys (λ k below. none (suc k) (omega (arith, below)))
 
-found_none : (items : List NumberItem) (kind key : ℕ) (d : NumberItem) → ((k : ℕ) → k < length items → rank_of (get_or items k d) ≢ rank kind key) → address_in (of_kind kind items) key ≡ None
+found_none : (items : List NumberItem) (kind key : ℕ) (d : NumberItem) → ((k : ℕ) → k < length items → item_rank_of (get_or items k d) ≢ item_rank kind key) → address_in (of_kind kind items) key ≡ None
 unfolding of_kind address_in
 found_none [] kind key d none = refl
 found_none (x ∷ xs) kind key d none = passed x xs kind key (none 0 (omega arith)) ∙ found_none xs kind key d (λ k below. none (suc k) (omega (arith, below)))
@@ -47,25 +47,25 @@ above_is_other : (x wanted : ℕ) → nat_cmp x wanted ≡ Greater → x ≢ wan
 above_is_other x wanted e same = let above : wanted < x = ranked x wanted Greater (sym e) in omega (arith, above, same)
 
 pub number_found : (items : List NumberItem) (kind key i its_key its_value : ℕ) → key < 2 ^ 64 → its_key < 2 ^ 64
-    → FindsKey nat_cmp rank_of items (rank kind key) (Ok i) → ((d : NumberItem) → its_key ≡ (get_or items i d).key) → ((d : NumberItem) → its_value ≡ (get_or items i d).value)
+    → FindsKey nat_cmp item_rank_of items (item_rank kind key) (Ok i) → ((d : NumberItem) → its_key ≡ (get_or items i d).key) → ((d : NumberItem) → its_value ≡ (get_or items i d).value)
     → address_in (of_kind kind items) key ≡ Some its_value
 number_found items kind key i its_key its_value small fits found keyed valued =
     let item = get_or items i no_number in
-    let same : rank_of item ≡ rank kind key = ranked (rank_of item) (rank kind key) Equal (sym (found.1 no_number)) in
+    let same : item_rank_of item ≡ item_rank kind key = ranked (item_rank_of item) (item_rank kind key) Equal (sym (found.1 no_number)) in
     let k = keyed no_number in
     let kinds : item.kind ≡ kind = omega (arith, same, small, fits, k) in
     let keys : item.key ≡ key = omega (arith, same, small, fits, k) in
     found_first items kind key i no_number found.0 kinds keys
-    (λ k below. below_is_other (rank_of (get_or items k no_number)) (rank kind key) (found.2 k no_number below))
+    (λ k below. below_is_other (item_rank_of (get_or items k no_number)) (item_rank kind key) (found.2 k no_number below))
     ∙ ap Some (sym (valued no_number))
 
-pub number_absent : (items : List NumberItem) (kind key i : ℕ) → FindsKey nat_cmp rank_of items (rank kind key) (Err i) → address_in (of_kind kind items) key ≡ None
+pub number_absent : (items : List NumberItem) (kind key i : ℕ) → FindsKey nat_cmp item_rank_of items (item_rank kind key) (Err i) → address_in (of_kind kind items) key ≡ None
 number_absent items kind key i found = found_none items kind key no_number other
   where
-    other : (k : ℕ) → k < length items → rank_of (get_or items k no_number) ≢ rank kind key
+    other : (k : ℕ) → k < length items → item_rank_of (get_or items k no_number) ≢ item_rank kind key
     other k below = elim (cases_lt k i) [
-      | inl before ↦ below_is_other (rank_of (get_or items k no_number)) (rank kind key) (found.1 k no_number before)
-      | inr behind ↦ above_is_other (rank_of (get_or items k no_number)) (rank kind key) (found.2 k no_number behind below)
+      | inl before ↦ below_is_other (item_rank_of (get_or items k no_number)) (item_rank kind key) (found.1 k no_number before)
+      | inr behind ↦ above_is_other (item_rank_of (get_or items k no_number)) (item_rank kind key) (found.2 k no_number behind below)
     ]
 
 -- the same of copied objects

@@ -12,15 +12,15 @@ use Rattle.elf_image.specs.declared.image_items.ItemKind.TheVariants as kind
 use Rattle.elf_image.specs.declared.image_items.NumberItem.{NumberItem}
 
 -- the number of a kind
-abbrev pub kind_number : ItemKind → ℕ
-kind_number kind.Base = 0
-kind_number kind.Descriptor = 1
-kind_number kind.Symbol = 2
-kind_number kind.Call = 3
-kind_number kind.Module = 4
-kind_number kind.Value = 5
-kind_number kind.Thread = 6
-kind_number kind.Resolver = 7
+abbrev pub item_kind_number : ItemKind → ℕ
+item_kind_number kind.LoadAddress = 0
+item_kind_number kind.Descriptor = 1
+item_kind_number kind.Symbol = 2
+item_kind_number kind.Call = 3
+item_kind_number kind.Module = 4
+item_kind_number kind.Value = 5
+item_kind_number kind.Thread = 6
+item_kind_number kind.Resolver = 7
 
 -- the value of a hexadecimal digit of either case; 0 of another byte
 unfoldable pub digit_value : ℕ → ℕ
@@ -76,26 +76,26 @@ of_kind kind (item ∷ items) = if item.kind == kind then (item.key, item.value)
 
 -- the number of a kind and a key
 abbrev pub number_of : GivenItems → ItemKind → (key : ℕ) → Option ℕ
-number_of given kind key = address_in (of_kind (kind_number kind) given.numbers) key
+number_of given kind key = address_in (of_kind (item_kind_number kind) given.numbers) key
 
 -- WHAT THEY SAY, as all items of a process or as some
 unfoldable pub said_by : GivenItems → (partial : Bool) → ItemValues
 said_by given partial = record {
-  base = unwrap_or (number_of given kind.Base 0) 0;
-  symbols = of_kind (kind_number kind.Symbol) given.numbers;
-  calls = of_kind (kind_number kind.Call) given.numbers;
-  modules = of_kind (kind_number kind.Module) given.numbers;
-  blocks = of_kind (kind_number kind.Value) given.numbers;
-  threads = of_kind (kind_number kind.Thread) given.numbers;
-  resolved = of_kind (kind_number kind.Resolver) given.numbers;
+  base = unwrap_or (number_of given kind.LoadAddress 0) 0;
+  symbols = of_kind (item_kind_number kind.Symbol) given.numbers;
+  calls = of_kind (item_kind_number kind.Call) given.numbers;
+  modules = of_kind (item_kind_number kind.Module) given.numbers;
+  blocks = of_kind (item_kind_number kind.Value) given.numbers;
+  threads = of_kind (item_kind_number kind.Thread) given.numbers;
+  resolved = of_kind (item_kind_number kind.Resolver) given.numbers;
   copies = given.copies;
   descriptor = number_of given kind.Descriptor 0;
   partial = partial;
 }
 
 -- the place of an item in the order of items, and that of a kind and a key
-abbrev pub rank : (kind key : ℕ) → ℕ
-rank kind key = kind * 2 ^ 64 + key
+abbrev pub item_rank : (kind key : ℕ) → ℕ
+item_rank kind key = kind * 2 ^ 64 + key
 
-abbrev pub rank_of : NumberItem → ℕ
-rank_of item = rank item.kind item.key
+abbrev pub item_rank_of : NumberItem → ℕ
+item_rank_of item = item_rank item.kind item.key

@@ -9,7 +9,11 @@ pub record IsAliveIn (size : ℕ) (missing : MissingEntries) : Type 0 where
   pub image : ImageWithin size missing.image
   pub walk : WalkAlive size missing.walk
 
+-- how many steps it may take
+abbrev pub missing_steps : MissingEntries → ℕ
+missing_steps missing = walk_steps missing.walk
+
 -- an entry of those that were left, or none after the last
 abbrev pub StepsMissing : (old new : MissingEntries) → Option LackingEntry → Type 0
 StepsMissing old new None = Unit {0}
-StepsMissing old new (Some entry) = walk_steps new.walk < walk_steps old.walk
+StepsMissing old new (Some entry) = missing_steps new < missing_steps old

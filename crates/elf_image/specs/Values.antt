@@ -9,19 +9,19 @@ use Rattle.elf_record.specs.Sym.{IsSym}
 use Rattle.elf_record.specs.declared.sym.Sym.{Sym}
 use Rattle.elf_reloc.specs.Types.{patched_bytes}
 use Rattle.elf_image.specs.Items.{copy_bytes, given, said_by}
-use Rattle.elf_image.specs.declared.changes.StoredBytes.{StoredBytes}
-use Rattle.elf_image.specs.declared.changes.StoredBytes.TheVariants as stored
+use Rattle.elf_image.specs.declared.changes.RelocatedBytes.{RelocatedBytes}
+use Rattle.elf_image.specs.declared.changes.RelocatedBytes.TheVariants as stored
 use Rattle.elf_image.specs.declared.changes.ImageFile.{ImageFile}
 use Rattle.elf_image.specs.declared.image_items.ItemKind.{ItemKind}
 use Rattle.elf_image.specs.declared.image_items.ItemKind.TheVariants as kind
 
 -- the items of an image
-abbrev pub items_of : ImageFile → ItemValues
-items_of image = said_by (given image.items.now.numbers.now image.items.now.copies.now) image.leaves
+abbrev pub known_items : ImageFile → ItemValues
+known_items image = said_by (given image.items.now.numbers.now image.items.now.copies.now) image.leaves
 
 -- the load address that an image has is that of its items
 abbrev pub IsBased : ImageFile → Type 0
-IsBased image = image.base ≡ (items_of image).base
+IsBased image = image.base ≡ (known_items image).base
 
 -- what the items of a kind say of a thread-local symbol
 abbrev pub ThreadKind : ItemKind → ThreadValue → Type 0
@@ -45,12 +45,12 @@ IsUsed type.Descriptor file at index symbol = IsSymbolOf file at index symbol
 IsUsed _ file at index symbol = IsSym file at symbol
 
 -- the bytes that are stored; those of a word to which the load address is added are not given
-abbrev pub stored_as : StoredBytes → List ℕ
+abbrev pub stored_as : RelocatedBytes → List ℕ
 stored_as stored.Based = []
 stored_as (stored.Value patch) = patched_bytes patch
 stored_as (stored.Pair first second) = little 8 first ++ little 8 second
 stored_as (stored.Copied bytes) = copy_bytes bytes
 
-abbrev pub bytes_or_cause : Result StoredBytes Cause → Result (List ℕ) Cause
+abbrev pub bytes_or_cause : Result RelocatedBytes Cause → Result (List ℕ) Cause
 bytes_or_cause (Ok bytes) = Ok (stored_as bytes)
 bytes_or_cause (Err cause) = Err cause

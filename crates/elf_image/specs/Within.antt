@@ -17,31 +17,31 @@ use Rattle.elf_image.specs.declared.walk.WalkStep.{WalkStep}
 use Rattle.elf_image.specs.declared.walk.WalkStep.TheVariants.{End}
 
 -- a table of rows of a width lies within a source of this size
-pub record TableWithin (width size : ℕ) (table : TableRange) : Type 0 where
+pub record IsTableWithin (width size : ℕ) (table : TableRange) : Type 0 where
   pub wide : table.entry ≡ width
   pub within : TableInBounds size table
 
 pub record TablesWithin (size : ℕ) (tables : ImageTables) : Type 0 where
-  pub compact : TableWithin 8 size tables.compact.rows
-  pub addends : TableWithin 24 size tables.addends.rows
-  pub calls : TableWithin 24 size tables.calls.rows
-  pub symbols : IfSome tables.symbols (TableWithin 24 size)
+  pub compact : IsTableWithin 8 size tables.compact.rows
+  pub addends : IsTableWithin 24 size tables.addends.rows
+  pub calls : IsTableWithin 24 size tables.calls.rows
+  pub symbols : IfSome tables.symbols (IsTableWithin 24 size)
 
 pub record RangesWithin (size : ℕ) (ranges : EntryRanges) : Type 0 where
-  pub first : TableWithin 24 size ranges.first
-  pub second : TableWithin 24 size ranges.second
+  pub first : IsTableWithin 24 size ranges.first
+  pub second : IsTableWithin 24 size ranges.second
 
 pub record RelocationsWithin (size : ℕ) (told : Relocations) : Type 0 where
-  pub compact : TableWithin 8 size told.compact
+  pub compact : IsTableWithin 8 size told.compact
   pub ranges : RangesWithin size told.ranges
-  pub symbols : IfSome told.symbols (TableWithin 24 size)
+  pub symbols : IfSome told.symbols (IsTableWithin 24 size)
 
 abbrev pub ImageWithin : ℕ → ImageFile → Type 0
 ImageWithin size image = RelocationsWithin size image.told
 
 -- the rows of relative relocations that are left can be read, and their addresses do not wrap
 pub record RowsAlive (size : ℕ) (rows : RelativeRows) : Type 0 where
-  pub table : TableWithin 8 size rows.cursor.table
+  pub table : IsTableWithin 8 size rows.cursor.table
   pub few : rows.left ≤ 63
   pub index : rows.cursor.index ≤ 2 ^ 64
   pub next : IfSome rows.next (λ address. address + 8 * rows.left ≤ 2 ^ 64 + 504 * rows.cursor.index)
@@ -51,14 +51,14 @@ abbrev pub row_steps : RelativeRows → ℕ
 row_steps rows = 64 * rows.cursor.left + rows.left
 
 -- a step past the last row, or one of those that were left
-abbrev pub StepsRows : (old new : RelativeRows) → RelativeStep → Type 0
-StepsRows old new Ended = row_steps new ≤ row_steps old
-StepsRows old new step = row_steps new < row_steps old
+abbrev pub StepsRelativeRows : (old new : RelativeRows) → RelativeStep → Type 0
+StepsRelativeRows old new Ended = row_steps new ≤ row_steps old
+StepsRelativeRows old new step = row_steps new < row_steps old
 
 -- the entries that are left can be read
 pub record EntriesAlive (size : ℕ) (entries : OrderedEntries) : Type 0 where
   pub ranges : RangesWithin size entries.ranges
-  pub table : TableWithin 24 size entries.cursor.table
+  pub table : IsTableWithin 24 size entries.cursor.table
   pub begun : entries.begun ≤ 4
   pub few : entries.cursor.left ≤ entries.ranges.first.count + entries.ranges.second.count
 
@@ -66,9 +66,9 @@ abbrev pub entry_steps : OrderedEntries → ℕ
 entry_steps entries =
     (4 - entries.begun) * (1 + (entries.ranges.first.count + entries.ranges.second.count)) + entries.cursor.left
 
-abbrev pub StepsEntries : (old new : OrderedEntries) → EntryStep → Type 0
-StepsEntries old new Past = Unit {0}
-StepsEntries old new step = entry_steps new < entry_steps old
+abbrev pub StepsOrderedEntries : (old new : OrderedEntries) → EntryStep → Type 0
+StepsOrderedEntries old new Past = Unit {0}
+StepsOrderedEntries old new step = entry_steps new < entry_steps old
 
 -- the walk can go on
 pub record WalkAlive (size : ℕ) (walk : ImageWalk) : Type 0 where

@@ -3,8 +3,8 @@ ghost use Rattle.std.specs.Prelude.{◌≡◌, ◌+◌, ◌*◌, ◌^◌, ◌<�
 ghost use Rattle.elf_source.specs.Prelude.{KeepsSource};
 ghost use Rattle.elf_image.specs.Within.{RelocationsWithin};
 
-use crate::image_rows_of::{ImageRows, image_rows, no_rows};
 use crate::image_items::{CopyBytes, ImageItems};
+use crate::image_rows_of::{ImageRows, image_rows, no_rows};
 use crate::place::{Place, holder};
 use crate::ranges::{EntryRanges, entry_ranges};
 use crate::tables::{ImageTables, MappedTable, image_tables};
@@ -52,7 +52,7 @@ pub(crate) struct Relocations {
 
 /// The bytes that a relocation stores.
 #[derive(Clone, Copy)]
-pub(crate) enum StoredBytes<'a> {
+pub(crate) enum RelocatedBytes<'a> {
     /// The word of 8 bytes that is there in the file, plus the base.
     Based,
     /// The bytes of a value.
@@ -66,10 +66,10 @@ pub(crate) enum StoredBytes<'a> {
 /// What a relocation changes: its place, the number of bytes there that it may change, and the
 /// bytes that it stores from the place on.
 #[derive(Clone, Copy)]
-pub(crate) struct ImageChange<'a> {
+pub(crate) struct PlacedBytes<'a> {
     pub(crate) place: Place,
     pub(crate) width: u64,
-    pub(crate) bytes: StoredBytes<'a>,
+    pub(crate) bytes: RelocatedBytes<'a>,
 }
 
 /// The result for an entry.
@@ -78,7 +78,7 @@ pub(crate) enum EntryResult<'a> {
     /// It changes nothing.
     Nothing,
     /// It stores bytes.
-    Stores(ImageChange<'a>),
+    Stores(PlacedBytes<'a>),
     /// It lacks an item.
     Lacks(Cause),
 }

@@ -1,7 +1,7 @@
 //! The relocation entries in the order in which a loader applies them.
 ghost use Rattle.std.specs.Prelude.{◌≡◌, ◌+◌, ◌<◌, ◌≤◌, ℕ, IfOk, length};
 ghost use Rattle.elf_source.specs.Prelude.{KeepsSource};
-ghost use Rattle.elf_image.specs.Within.{EntriesAlive, RangesWithin, StepsEntries, TableWithin};
+ghost use Rattle.elf_image.specs.Within.{EntriesAlive, RangesWithin, StepsOrderedEntries, IsTableWithin};
 ghost use Rattle.elf_image.specs.declared.entries.EntryStep.TheVariants.{Past};
 
 use crate::ranges::EntryRanges;
@@ -82,7 +82,7 @@ impl OrderedEntries {
         requires { EntriesAlive src.old.seen.size self.old }
         ensures keeps { KeepsSource src.old.seen src.new.seen }
         ensures alive { IfOk result (λ _. EntriesAlive src.old.seen.size self.new) }
-        ensures steps { IfOk result (StepsEntries self.old self.new) }
+        ensures steps { IfOk result (StepsOrderedEntries self.old self.new) }
     {
         if self.cursor.advance(src)? {
             return self.taken();
@@ -100,7 +100,7 @@ impl OrderedEntries {
         ensures ranges { self.new.ranges ≡ self.old.ranges }
         ensures begun { self.new.begun ≡ self.old.begun + 1 }
         ensures within { (size : ℕ) → RangesWithin size self.old.ranges →
-            TableWithin 24 size self.new.cursor.table }
+            IsTableWithin 24 size self.new.cursor.table }
         ensures few { self.new.cursor.left
             ≤ self.old.ranges.first.count + self.old.ranges.second.count }
     {
@@ -114,7 +114,7 @@ impl OrderedEntries {
     /// Returns the part of a number below 4.
     fn part_of(&self, number: u8) -> EntryPart
         ensures within { (size : ℕ) → RangesWithin size self.now.ranges →
-            TableWithin 24 size result.table }
+            IsTableWithin 24 size result.table }
         ensures few { result.table.count
             ≤ self.now.ranges.first.count + self.now.ranges.second.count }
     {

@@ -2,7 +2,7 @@
 ghost use Rattle.elf_source.specs.Prelude.{KeepsSource};
 ghost use Rattle.elf_image.specs.Within.{ImageWithin};
 
-use crate::changes::{EntryResult, ImageChange, ImageFile, StoredBytes};
+use crate::changes::{EntryResult, ImageFile, PlacedBytes, RelocatedBytes};
 use crate::dynamic_types::{changed_size, dynamic_type, is_thread_local, uses_no_symbol};
 use crate::place::{HeldRange, checked_place};
 use crate::stored::stored_bytes;
@@ -42,7 +42,7 @@ pub(crate) fn entry_result<'a, S: Source>(
     let width = changed_size(found, &symbol);
     let place = checked_place(image, last, entry.r_offset, width, at)?;
     match stored_bytes(image, found, entry, &symbol) {
-        Ok(bytes) => Ok(EntryResult::Stores(ImageChange {
+        Ok(bytes) => Ok(EntryResult::Stores(PlacedBytes {
             place,
             width,
             bytes,

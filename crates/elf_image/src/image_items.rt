@@ -1,18 +1,20 @@
 //! Items: what an image depends on besides its file.
-ghost use Rattle.std.specs.Prelude.{◌≡◌, ◌+◌, ◌*◌, ◌/◌, ◌^◌, ◌<◌, ◌≤◌, length, IfSome, MatchBool, true, option_map, slice_index_or, unwrap_or, ℕ, List};
+ghost use Rattle.std.specs.Prelude.{◌≡◌, ◌+◌, ◌*◌, ◌/◌, ◌^◌, ◌<◌, ◌≤◌, length, IfSome, MatchBool};
+ghost use Rattle.std.specs.Prelude.{true, option_map, slice_index_or, unwrap_or, ℕ, List};
 ghost use Rattle.std.specs.Ordering.{nat_cmp};
 ghost use Rattle.elf_layout.specs.Lent.{FindsKey, Follows, KeysAscend};
 ghost use Rattle.elf_model.specs.ImageItems.{bytes_for};
-ghost use Rattle.elf_image.specs.Items.{byte_in, byte_of_digits, copies_of, copy_bytes, copy_index, copy_size, digit_value, given, kind_number, number_of, rank, rank_of};
-ghost use Rattle.elf_image.specs.declared.image_items.ItemKind.TheVariants.{Base};
+ghost use Rattle.elf_image.specs.Items.{byte_in, byte_of_digits, copies_of, copy_bytes, copy_index};
+ghost use Rattle.elf_image.specs.Items.{copy_size, digit_value, given, item_kind_number, number_of};
+ghost use Rattle.elf_image.specs.Items.{item_rank, item_rank_of};
+ghost use Rattle.elf_image.specs.declared.image_items.ItemKind.TheVariants.{LoadAddress};
 ghost use Rattle.elf_image.specs.declared.image_items.NumberItem.{NumberItem as IsNumberItem};
-
 
 /// What an item says. Items are sorted by it, in this order.
 #[derive(Clone, Copy, PartialEq, Eq)]
 pub enum ItemKind {
     /// The load address: what is added to each address of the file.
-    Base,
+    LoadAddress,
     /// The first word of a static TLS descriptor.
     Descriptor,
     /// The address that a symbol of the dynamic symbols is bound to.
@@ -32,10 +34,10 @@ pub enum ItemKind {
 impl ItemKind {
     /// Returns the number of the kind, which is its place in the order of items.
     pub fn number(self) -> u32
-        ensures { result ≡ kind_number self }
+        ensures { result ≡ item_kind_number self }
     {
         match self {
-            ItemKind::Base => 0,
+            ItemKind::LoadAddress => 0,
             ItemKind::Descriptor => 1,
             ItemKind::Symbol => 2,
             ItemKind::Call => 3,
@@ -129,14 +131,15 @@ fn digit_of(byte: u8) -> u8
 pub struct ImageItems<'a> {
     numbers: &'a [NumberItem],
     copies: &'a [CopyItem<'a>],
-    pub ghost ascending: { KeysAscend nat_cmp rank_of numbers.now
+    pub ghost ascending: { KeysAscend nat_cmp item_rank_of numbers.now
         × KeysAscend nat_cmp copy_index copies.now },
 }
 
 impl<'a> ImageItems<'a> {
     /// Returns the items of these slices, or `None` if one is not above the one before it.
     pub fn new(numbers: &'a [NumberItem], copies: &'a [CopyItem<'a>]) -> Option<ImageItems<'a>>
-        ensures { IfSome result (λ items. given items.numbers.now items.copies.now ≡ given numbers.now copies.now) }
+        ensures { IfSome result (λ items.
+            given items.numbers.now items.copies.now ≡ given numbers.now copies.now) }
     {
         if !numbers_ascend(numbers) || !copies_ascend(copies) {
             return None;
@@ -148,7 +151,7 @@ impl<'a> ImageItems<'a> {
     pub fn number(&self, kind: ItemKind, key: u64) -> Option<u64>
         ensures { result ≡ number_of (given self.now.numbers.now self.now.copies.now) kind key }
     {
-        match search_number(self.numbers, rank(kind.number(), key)) {
+        match search_number(self.numbers, item_rank(kind.number(), key)) {
             Ok(found) => Some(key_and_value(self.numbers, found).1),
             Err(_) => None,
         }
@@ -156,14 +159,16 @@ impl<'a> ImageItems<'a> {
 
     /// Returns the load address, 0 without an item.
     pub fn base(&self) -> u64
-        ensures { result ≡ unwrap_or (number_of (given self.now.numbers.now self.now.copies.now) Base 0) 0 }
+        ensures { result ≡ unwrap_or
+            (number_of (given self.now.numbers.now self.now.copies.now) LoadAddress 0) 0 }
     {
-        self.number(ItemKind::Base, 0).unwrap_or(0)
+        self.number(ItemKind::LoadAddress, 0).unwrap_or(0)
     }
 
     /// Returns the bytes of the copied object of a symbol, if there is an item.
     pub fn copy(&self, index: u32) -> Option<CopyBytes<'a>>
-        ensures { option_map copy_bytes result ≡ bytes_for (given self.now.numbers.now self.now.copies.now).copies index }
+        ensures { option_map copy_bytes result
+            ≡ bytes_for (given self.now.numbers.now self.now.copies.now).copies index }
     {
         match search_copy(self.copies, index) {
             Ok(found) => Some(self.copies[found].bytes),
@@ -173,18 +178,18 @@ impl<'a> ImageItems<'a> {
 }
 
 /// Returns the place of a kind and a key in the order of items.
-fn rank(kind: u32, key: u64) -> u128
-    ensures { result ≡ rank kind key }
+fn item_rank(kind: u32, key: u64) -> u128
+    ensures { result ≡ item_rank kind key }
 {
     u128::from(kind) * 0x1_0000_0000_0000_0000 + u128::from(key)
 }
 
 /// Searches for the number of a place in the order of items.
 fn search_number(items: &[NumberItem], wanted: u128) -> Result<usize, usize>
-    requires { KeysAscend nat_cmp rank_of items.now }
-    ensures { FindsKey nat_cmp rank_of items.now wanted result }
+    requires { KeysAscend nat_cmp item_rank_of items.now }
+    ensures { FindsKey nat_cmp item_rank_of items.now wanted result }
 {
-    items.binary_search_by_key(&wanted, |item| rank(item.kind, item.key))
+    items.binary_search_by_key(&wanted, |item| item_rank(item.kind, item.key))
 }
 
 /// Returns the key and the value of the item at an index of the slice.
@@ -215,7 +220,7 @@ fn search_copy(items: &[CopyItem<'_>], index: u32) -> Result<usize, usize>
 
 /// Returns `true` if each number is above the one before it.
 fn numbers_ascend(items: &[NumberItem]) -> bool
-    ensures { result ≡ true → KeysAscend nat_cmp rank_of items.now }
+    ensures { result ≡ true → KeysAscend nat_cmp item_rank_of items.now }
 {
     let mut i = 0;
     while i < items.len() {
@@ -230,10 +235,11 @@ fn numbers_ascend(items: &[NumberItem]) -> bool
 /// Returns `true` if the number of an index is the first, or above the one before it.
 fn number_follows(items: &[NumberItem], i: usize) -> bool
     requires { i < length items.now }
-    ensures { MatchBool result (Follows nat_cmp rank_of items.now i)
-        (Follows nat_cmp rank_of items.now i → ⊥) }
+    ensures { MatchBool result (Follows nat_cmp item_rank_of items.now i)
+        (Follows nat_cmp item_rank_of items.now i → ⊥) }
 {
-    i == 0 || rank(items[i - 1].kind, items[i - 1].key) < rank(items[i].kind, items[i].key)
+    i == 0
+        || item_rank(items[i - 1].kind, items[i - 1].key) < item_rank(items[i].kind, items[i].key)
 }
 
 /// Returns `true` if each index is above the one before it.

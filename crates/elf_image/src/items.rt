@@ -55,7 +55,7 @@ fn are_hex_digits(bytes: &[u8]) -> bool {
 /// Returns the item of a key and a number.
 fn number_of(key: &str, text: &str) -> Option<NumberItem> {
     match key {
-        "base" => return Some(item_of(ItemKind::Base, 0, address_of(text)?)),
+        "base" => return Some(item_of(ItemKind::LoadAddress, 0, address_of(text)?)),
         "desc" => return Some(item_of(ItemKind::Descriptor, 0, address_of(text)?)),
         _ => {}
     }

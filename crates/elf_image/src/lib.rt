@@ -5,12 +5,12 @@
 #![tactic(auto)]
 
 mod changes;
-mod image_rows_of;
 mod dynamic_types;
 mod entries;
 mod entry;
 mod headers;
 mod image_items;
+mod image_rows_of;
 mod item_list;
 mod items;
 mod marks;

@@ -1,4 +1,5 @@
 //! Which windows of a segment a place meets.
+ghost use Rattle.std.specs.Prelude.{◌<◌, ◌≤◌};
 
 /// The number of bytes of the marks.
 const MARK_BYTES: usize = 512;
@@ -19,7 +20,9 @@ impl WindowMarks {
     }
 
     /// Marks the windows of `size` bytes each that `width` bytes at an offset meet.
-    pub(crate) fn mark(&mut self, offset: u64, width: u64, size: u64) {
+    pub(crate) fn mark(&mut self, offset: u64, width: u64, size: u64)
+        requires { 0 < size }
+    {
         if width == 0 {
             return;
         }
@@ -32,7 +35,9 @@ impl WindowMarks {
     }
 
     /// Marks a window of an index below 4,096.
-    fn set(&mut self, window: usize) {
+    fn set(&mut self, window: usize)
+        requires { window < 4096 }
+    {
         self.bits[window / 8] |= 1 << (window % 8);
     }
 
@@ -46,7 +51,9 @@ impl WindowMarks {
     }
 
     /// Returns how many of the first `count` windows are marked.
-    pub(crate) fn marked(&self, count: u64) -> u64 {
+    pub(crate) fn marked(&self, count: u64) -> u64
+        ensures { result ≤ count }
+    {
         let mut met = 0;
         for window in 0..count {
             if self.is_marked(window) {

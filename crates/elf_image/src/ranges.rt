@@ -1,6 +1,6 @@
 //! The ranges of relocation entries, in the order of a loader.
 ghost use Rattle.std.specs.Prelude.{◌≡◌, ◌≤◌, ℕ, IfOk};
-ghost use Rattle.elf_image.specs.Within.{RangesWithin, TableWithin, TablesWithin};
+ghost use Rattle.elf_image.specs.Within.{RangesWithin, IsTableWithin, TablesWithin};
 
 use crate::image_rows_of::ImageRows;
 use crate::tables::{ImageTables, MappedTable};
@@ -90,7 +90,7 @@ fn calls_row(rows: &ImageRows) -> u64 {
 fn front_of(table: &Table, count: u64) -> Table
     requires entry { table.now.entry ≡ 24 }
     requires few { count ≤ table.now.count }
-    ensures within { (size : ℕ) → TableWithin 24 size table.now → TableWithin 24 size result }
+    ensures within { (size : ℕ) → IsTableWithin 24 size table.now → IsTableWithin 24 size result }
 {
     let _ = table.entry();
     Table::new(table.at(), table.len() - count, RELOCATION_BYTES)

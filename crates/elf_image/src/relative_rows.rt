@@ -2,7 +2,7 @@
 ghost use Rattle.std.specs.Prelude.{◌≡◌, ◌+◌, ◌*◌, ◌^◌, ◌<◌, ◌≤◌, ℕ, IfOk, IfSome, length};
 ghost use Rattle.elf_source.specs.Prelude.{KeepsSource, SameView};
 ghost use Rattle.elf_table.specs.Prelude.{IsOfCheck};
-ghost use Rattle.elf_image.specs.Within.{RowsAlive, StepsRows, TableWithin, row_steps};
+ghost use Rattle.elf_image.specs.Within.{RowsAlive, StepsRelativeRows, IsTableWithin, row_steps};
 
 use elf_record::{Cause, u64_at};
 use elf_source::{Counted, Source};
@@ -51,7 +51,7 @@ pub(crate) struct RelativeRows {
 impl RelativeRows {
     /// Creates a cursor before the first row of a table of words of 8 bytes.
     pub(crate) fn new(table: Table) -> RelativeRows
-        ensures { (size : ℕ) → TableWithin 8 size table → RowsAlive size result }
+        ensures { (size : ℕ) → IsTableWithin 8 size table → RowsAlive size result }
     {
         RelativeRows {
             cursor: Cursor::new(table),
@@ -72,7 +72,7 @@ impl RelativeRows {
         requires { RowsAlive src.old.seen.size self.old }
         ensures keeps { KeepsSource src.old.seen src.new.seen }
         ensures alive { IfOk result (λ _. RowsAlive src.old.seen.size self.new) }
-        ensures steps { IfOk result (StepsRows self.old self.new) }
+        ensures steps { IfOk result (StepsRelativeRows self.old self.new) }
     {
         if self.left > 0 {
             return self.bit();

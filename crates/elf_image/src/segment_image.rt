@@ -1,5 +1,5 @@
 //! The call that writes the image of a segment.
-ghost use Rattle.std.specs.Prelude.{◌≡◌, ◌+◌, ◌<◌, ◌≤◌, ℕ, length};
+ghost use Rattle.std.specs.Prelude.{◌≡◌, ◌+◌, ◌<◌, ◌≤◌, ◌^◌, ℕ, length};
 ghost use Rattle.elf_source.specs.Prelude.{KeepsSource};
 ghost use Rattle.elf_hash.specs.Loading.{FitsSource};
 ghost use Rattle.elf_image.specs.Images.{TargetWithin};
@@ -31,7 +31,7 @@ pub struct ImageRequest<'a> {
 
 /// The segment that is written.
 #[derive(Clone, Copy)]
-pub(crate) struct Target {
+pub(crate) struct ImageTarget {
     pub(crate) index: u16,
     /// Its bytes in the file.
     pub(crate) bytes: SegmentBytes,
@@ -122,16 +122,16 @@ fn write_loaded<S: Source, W: Sink>(
     let target = target_of(request.segment, &header, window.len() as u64, masked.hides);
     let marks = check(src, &image, &target)?;
     check_budget(src, &image, &target, &marks)?;
-    write_windows(src, &image, &target, &marks, window, out)
+    write_segment_windows(src, &image, &target, &marks, window, out)
 }
 
 /// Returns the segment of a program header, written in windows of a size.
-fn target_of(index: u16, header: &Phdr, window: u64, hides: bool) -> Target
+fn target_of(index: u16, header: &Phdr, window: u64, hides: bool) -> ImageTarget
     requires { 16 ≤ window }
     ensures { (size : ℕ) → header.now.p_offset + header.now.p_filesz ≤ size →
         TargetWithin size window result }
 {
-    Target {
+    ImageTarget {
         index,
         bytes: SegmentBytes {
             at: header.p_offset,
@@ -150,7 +150,7 @@ fn target_of(index: u16, header: &Phdr, window: u64, hides: bool) -> Target
 fn check<S: Source>(
     src: &mut Counted<S>,
     image: &ImageFile<'_, '_>,
-    target: &Target,
+    target: &ImageTarget,
 ) -> Result<WindowMarks, Fault>
     requires image { ImageWithin src.old.seen.size image.now }
     requires window { 0 < target.now.window }
@@ -176,7 +176,7 @@ fn check<S: Source>(
 fn check_budget<S: Source>(
     src: &Counted<S>,
     image: &ImageFile<'_, '_>,
-    target: &Target,
+    target: &ImageTarget,
     marks: &WindowMarks,
 ) -> Result<(), Fault>
     requires { 0 < target.now.window }
@@ -199,11 +199,18 @@ fn check_budget<S: Source>(
     Ok(())
 }
 
+/// A window of the segment: its offset, and whether a relocation stores something in it.
+#[derive(Clone, Copy)]
+struct WindowPlace {
+    low: u64,
+    met: bool,
+}
+
 /// Writes the segment, window by window. All relocations are checked.
-fn write_windows<S: Source, W: Sink>(
+fn write_segment_windows<S: Source, W: Sink>(
     src: &mut Counted<S>,
     image: &ImageFile<'_, '_>,
-    target: &Target,
+    target: &ImageTarget,
     marks: &WindowMarks,
     room: &mut [u8],
     out: &mut Out<W>,
@@ -215,13 +222,33 @@ fn write_windows<S: Source, W: Sink>(
     let mut low = 0;
     'windows: while low < size {
         let count = (size - low).min(target.window);
-        let mut window = read_window(src, target, low, &mut room[..count as usize])?;
-        if marks.is_marked(low / target.window) {
-            patch_window(src, image, target.index, &mut window)?;
-        }
-        out.put(window.bytes())?;
+        let met = marks.is_marked(low / target.window);
+        let place = WindowPlace { low, met };
+        write_window(src, image, target, place, &mut room[0..count as usize], out)?;
         low += count;
     }
+    Ok(())
+}
+
+/// Writes one window of the segment, as many bytes as `bytes` has; they are left in it.
+fn write_window<S: Source, W: Sink>(
+    src: &mut Counted<S>,
+    image: &ImageFile<'_, '_>,
+    target: &ImageTarget,
+    place: WindowPlace,
+    bytes: &mut [u8],
+    out: &mut Out<W>,
+) -> Result<(), RunFault>
+    requires image { ImageWithin src.old.seen.size image.now }
+    requires within { target.now.bytes.at + target.now.bytes.size ≤ src.old.seen.size }
+    requires fits { place.low + length bytes.old < 2 ^ 64 }
+    ensures { src.new.seen.size ≡ src.old.seen.size }
+{
+    let mut window = read_window(src, target, place.low, bytes)?;
+    if place.met {
+        patch_window(src, image, target.index, &mut window)?;
+    }
+    out.put(window.bytes())?;
     Ok(())
 }
 
@@ -232,13 +259,13 @@ fn write_windows<S: Source, W: Sink>(
 /// Returns a fault of a read.
 fn read_window<'w, S: Source>(
     src: &mut Counted<S>,
-    target: &Target,
+    target: &ImageTarget,
     low: u64,
     bytes: &'w mut [u8],
 ) -> Result<ImageWindow<'w>, Fault>
     requires within { target.now.bytes.at + target.now.bytes.size ≤ src.old.seen.size }
-    requires fits { low + length bytes.old ≤ target.now.size }
-    ensures { KeepsSource src.old.seen src.new.seen }
+    requires fits { low + length bytes.old < 2 ^ 64 }
+    ensures { src.new.seen.size ≡ src.old.seen.size }
 {
     src.mask_section_headers(target.hides);
     let window = ImageWindow::read(src, target.bytes, low, bytes);

@@ -2,14 +2,15 @@
 ghost use Rattle.std.specs.Prelude.{◌≡◌, ◌<◌, ◌/◌, ◌^◌, ℕ, List};
 ghost use Rattle.elf_model.specs.Bytes.{little};
 ghost use Rattle.elf_model.specs.ImageItems.{bytes_for, is_looked_up};
-ghost use Rattle.elf_model.specs.ImageValues.{copied_bytes, descriptor_bytes, low_four_bytes, placed_value, stored_bytes, word_if_bound, word_of};
+ghost use Rattle.elf_model.specs.ImageValues.{copied_bytes, descriptor_bytes, low_four_bytes, placed_value};
+ghost use Rattle.elf_model.specs.ImageValues.{stored_bytes, word_if_bound, word_of};
 ghost use Rattle.elf_model.specs.Placing.{address_in};
 ghost use Rattle.elf_model.specs.Records.{r_addend, st_size, twos_complement};
 ghost use Rattle.elf_record.specs.Rela.{IsRela};
 ghost use Rattle.elf_record.specs.Sym.{IsSym};
-ghost use Rattle.elf_image.specs.Values.{IsBased, IsUsed, bytes_or_cause, items_of, stored_as};
+ghost use Rattle.elf_image.specs.Values.{IsBased, IsUsed, bytes_or_cause, known_items, stored_as};
 
-use crate::changes::{ImageFile, StoredBytes};
+use crate::changes::{ImageFile, RelocatedBytes};
 use crate::image_items::ItemKind;
 use crate::symbols::is_looked_up;
 use crate::values::{bound_value, called_value, thread_value};
@@ -28,11 +29,11 @@ pub(crate) fn stored_bytes<'a>(
     found: DynamicType,
     entry: &Rela,
     symbol: &Sym,
-) -> Result<StoredBytes<'a>, Cause>
+) -> Result<RelocatedBytes<'a>, Cause>
     ensures { (file : List ℕ) (rela at : ℕ) → IsRela file rela entry.now →
         r_addend file rela < 2 ^ 64 →
         IsUsed found file at (entry.now.r_info / 2 ^ 32) symbol.now → IsBased image.now →
-        bytes_or_cause result ≡ stored_bytes found file (items_of image.now) rela at }
+        bytes_or_cause result ≡ stored_bytes found file (known_items image.now) rela at }
 {
     let index = entry.symbol();
     let addend = entry.r_addend.cast_unsigned();
@@ -75,7 +76,7 @@ pub(crate) fn stored_bytes<'a>(
 }
 
 /// Returns the eight bytes of a value and an addend modulo 2^64, if there is a value.
-fn word_of<'a>(value: Result<u64, Cause>, addend: u64) -> Result<StoredBytes<'a>, Cause>
+fn word_of<'a>(value: Result<u64, Cause>, addend: u64) -> Result<RelocatedBytes<'a>, Cause>
     ensures { bytes_or_cause result ≡ word_of value addend }
 {
     match value {
@@ -88,22 +89,22 @@ fn word_of<'a>(value: Result<u64, Cause>, addend: u64) -> Result<StoredBytes<'a>
 fn word_if_bound<'a>(
     value: Result<Option<u64>, Cause>,
     addend: u64,
-) -> Result<StoredBytes<'a>, Cause>
+) -> Result<RelocatedBytes<'a>, Cause>
     ensures { bytes_or_cause result ≡ word_if_bound value addend }
 {
     match value {
         Ok(Some(value)) => Ok(word(value.wrapping_add(addend))),
-        Ok(None) => Ok(StoredBytes::Value(Patch::None)),
+        Ok(None) => Ok(RelocatedBytes::Value(Patch::None)),
         Err(cause) => Err(cause),
     }
 }
 
 /// Returns the bytes of a word.
 #[tactic(auto, unfolding(elf_model::specs::Bytes::little))]
-fn word<'a>(number: u64) -> StoredBytes<'a>
+fn word<'a>(number: u64) -> RelocatedBytes<'a>
     ensures { stored_as result ≡ little 8 number }
 {
-    StoredBytes::Value(Patch::Word64(number.to_le_bytes()))
+    RelocatedBytes::Value(Patch::Word64(number.to_le_bytes()))
 }
 
 /// Returns the bytes of a type of which elf_reloc computes the value, by its number.
@@ -112,13 +113,13 @@ fn low_four_bytes<'a>(
     address: Result<u64, Cause>,
     addend: i64,
     place: u64,
-) -> Result<StoredBytes<'a>, Cause>
+) -> Result<RelocatedBytes<'a>, Cause>
     ensures { (bits : ℕ) → addend ≡ twos_complement bits →
         bytes_or_cause result ≡ low_four_bytes number address bits place }
 {
     let address = address?;
     match value(number, address, address, addend, place) {
-        Ok(patch) => Ok(StoredBytes::Value(patch)),
+        Ok(patch) => Ok(RelocatedBytes::Value(patch)),
         Err(ValueFault::Unsupported) => Err(Cause::Unsupported),
         Err(ValueFault::Overflow) => Err(Cause::Overflow),
     }
@@ -127,7 +128,7 @@ fn low_four_bytes<'a>(
 /// Returns the answer of the resolver at an address.
 #[tactic(auto, unfolding(crate::specs::Items::said_by))]
 fn resolved_value(image: &ImageFile<'_, '_>, address: u64) -> Result<u64, Cause>
-    ensures { result ≡ placed_value (address_in (items_of image.now).resolved address) }
+    ensures { result ≡ placed_value (address_in (known_items image.now).resolved address) }
 {
     match image.items.number(ItemKind::Resolver, address) {
         Some(answer) => Ok(answer),
@@ -141,10 +142,10 @@ fn copied_bytes<'a>(
     image: &ImageFile<'_, 'a>,
     index: u32,
     symbol: &Sym,
-) -> Result<StoredBytes<'a>, Cause>
+) -> Result<RelocatedBytes<'a>, Cause>
     ensures { (file : List ℕ) (at : ℕ) → IsSym file at symbol.now →
         bytes_or_cause result
-        ≡ copied_bytes (is_looked_up file at) (bytes_for (items_of image.now).copies index)
+        ≡ copied_bytes (is_looked_up file at) (bytes_for (known_items image.now).copies index)
         (st_size file at) }
 {
     if !is_looked_up(symbol) {
@@ -153,7 +154,7 @@ fn copied_bytes<'a>(
     match image.items.copy(index) {
         None => Err(Cause::Undefined),
         Some(bytes) if bytes.len() as u64 > symbol.st_size => Err(Cause::Overflow),
-        Some(bytes) => Ok(StoredBytes::Copied(bytes)),
+        Some(bytes) => Ok(RelocatedBytes::Copied(bytes)),
     }
 }
 
@@ -164,14 +165,14 @@ fn descriptor_bytes<'a>(
     function: Option<u64>,
     offset: Result<Option<u64>, Cause>,
     addend: u64,
-) -> Result<StoredBytes<'a>, Cause>
+) -> Result<RelocatedBytes<'a>, Cause>
     ensures { bytes_or_cause result ≡ descriptor_bytes function offset addend }
 {
     let Some(offset) = offset? else {
         return Err(Cause::Undefined);
     };
     match function {
-        Some(function) => Ok(StoredBytes::Pair(function, offset.wrapping_add(addend))),
+        Some(function) => Ok(RelocatedBytes::Pair(function, offset.wrapping_add(addend))),
         None => Err(Cause::Unplaced),
     }
 }

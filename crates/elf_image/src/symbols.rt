@@ -3,7 +3,7 @@ ghost use Rattle.std.specs.Prelude.{◌≡◌, ℕ, List, IfSome};
 ghost use Rattle.elf_model.specs.ImageItems.{is_looked_up};
 ghost use Rattle.elf_record.specs.Sym.{IsSym};
 ghost use Rattle.elf_source.specs.Source.{ReadsUpTo};
-ghost use Rattle.elf_image.specs.Within.{TableWithin};
+ghost use Rattle.elf_image.specs.Within.{IsTableWithin};
 
 use elf_record::numbers::STB_LOCAL;
 use elf_record::{Cause, Sym};
@@ -39,7 +39,7 @@ pub(crate) fn read_symbol<S: Source>(
     index: u32,
     at: u64,
 ) -> Result<Sym, Fault>
-    requires { IfSome symbols (TableWithin 24 src.old.seen.size) }
+    requires { IfSome symbols (IsTableWithin 24 src.old.seen.size) }
     ensures { ReadsUpTo src.old src.new 24 }
 {
     let Some(table) = symbols else {

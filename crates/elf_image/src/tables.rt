@@ -1,6 +1,6 @@
 //! The tables that say how a file is relocated, with their checks.
 ghost use Rattle.std.specs.Prelude.{◌≡◌, ◌<◌, ◌≤◌, IfOk, IfSome};
-ghost use Rattle.elf_image.specs.Within.{TableWithin, TablesWithin};
+ghost use Rattle.elf_image.specs.Within.{IsTableWithin, TablesWithin};
 
 use crate::image_rows_of::{ImageRows, TableRows};
 use elf_hash::DynEntry;
@@ -99,7 +99,7 @@ fn checked_mapped_table(
 ) -> Result<MappedTable, Fault>
     requires { (0 < entry) × (entry ≤ 4096) }
     ensures within { IfOk result (λ table.
-        TableWithin entry view.now.loaded.size table.rows) }
+        IsTableWithin entry view.now.loaded.size table.rows) }
 {
     let Some(address) = rows.address else {
         return Ok(empty_table(0, entry));
@@ -139,7 +139,7 @@ fn empty_table(address: u64, entry: u64) -> MappedTable
 /// Returns the symbols from an address to the end of its segment, if a dynamic entry has it.
 fn checked_symbols(view: &ExecutionView<'_>, row: Option<DynEntry>) -> Result<Option<Table>, Fault>
     ensures within { IfOk result (λ found.
-        IfSome found (TableWithin 24 view.now.loaded.size)) }
+        IfSome found (IsTableWithin 24 view.now.loaded.size)) }
 {
     let Some(row) = row else {
         return Ok(None);

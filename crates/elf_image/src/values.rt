@@ -1,10 +1,12 @@
 //! The values of symbols in an image.
 ghost use Rattle.std.specs.Prelude.{◌≡◌, ℕ, List};
-ghost use Rattle.elf_model.specs.ImageItems.{ThreadValue, bound_value, called_value, item_of, lacks_item, may_be_unbound, or_unplaced};
-ghost use Rattle.elf_model.specs.ImageItems.{own_thread_symbol, own_thread_value, own_value, thread_value};
+ghost use Rattle.elf_model.specs.ImageItems.{ThreadValue, bound_value, called_value, item_of};
+ghost use Rattle.elf_model.specs.ImageItems.{lacks_item, may_be_unbound, or_unplaced};
+ghost use Rattle.elf_model.specs.ImageItems.{own_thread_symbol, own_thread_value, own_value};
+ghost use Rattle.elf_model.specs.ImageItems.{thread_value};
 ghost use Rattle.elf_record.specs.Sym.{IsSym};
-ghost use Rattle.elf_image.specs.Items.{kind_number, of_kind};
-ghost use Rattle.elf_image.specs.Values.{IsBased, IsSymbolOf, ThreadKind, items_of};
+ghost use Rattle.elf_image.specs.Items.{item_kind_number, of_kind};
+ghost use Rattle.elf_image.specs.Values.{IsBased, IsSymbolOf, ThreadKind, known_items};
 
 use crate::changes::ImageFile;
 use crate::image_items::ItemKind;
@@ -19,7 +21,7 @@ use elf_record::{Cause, Sym};
 #[tactic(auto, unfolding(elf_model::specs::ImageItems::bound_value, crate::specs::Items::said_by))]
 pub(crate) fn bound_value(image: &ImageFile<'_, '_>, index: u32, symbol: &Sym) -> Result<u64, Cause>
     ensures { (file : List ℕ) (at : ℕ) → IsSym file at symbol.now → IsBased image.now →
-        result ≡ bound_value file (items_of image.now) index at }
+        result ≡ bound_value file (known_items image.now) index at }
 {
     match item_of(image, ItemKind::Symbol, index, symbol) {
         Some(value) => Ok(value),
@@ -32,9 +34,13 @@ pub(crate) fn bound_value(image: &ImageFile<'_, '_>, index: u32, symbol: &Sym) -
 /// # Errors
 /// Those of [`bound_value`].
 #[tactic(auto, unfolding(elf_model::specs::ImageItems::called_value, crate::specs::Items::said_by))]
-pub(crate) fn called_value(image: &ImageFile<'_, '_>, index: u32, symbol: &Sym) -> Result<u64, Cause>
+pub(crate) fn called_value(
+    image: &ImageFile<'_, '_>,
+    index: u32,
+    symbol: &Sym,
+) -> Result<u64, Cause>
     ensures { (file : List ℕ) (at : ℕ) → IsSym file at symbol.now → IsBased image.now →
-        result ≡ called_value file (items_of image.now) index at }
+        result ≡ called_value file (known_items image.now) index at }
 {
     match item_of(image, ItemKind::Call, index, symbol) {
         Some(value) => Ok(value),
@@ -45,7 +51,8 @@ pub(crate) fn called_value(image: &ImageFile<'_, '_>, index: u32, symbol: &Sym) 
 /// Returns the item of a kind of the symbol of an index, if it is looked up.
 fn item_of(image: &ImageFile<'_, '_>, kind: ItemKind, index: u32, symbol: &Sym) -> Option<u64>
     ensures { (file : List ℕ) (at : ℕ) → IsSym file at symbol.now →
-        result ≡ item_of (of_kind (kind_number kind) image.now.items.now.numbers.now) file index at }
+        result
+        ≡ item_of (of_kind (item_kind_number kind) image.now.items.now.numbers.now) file index at }
 {
     if !is_looked_up(symbol) {
         return None;
@@ -57,7 +64,7 @@ fn item_of(image: &ImageFile<'_, '_>, kind: ItemKind, index: u32, symbol: &Sym) 
 #[tactic(auto, unfolding(crate::specs::Items::said_by))]
 fn lacks_item(image: &ImageFile<'_, '_>, symbol: &Sym) -> bool
     ensures { (file : List ℕ) (at : ℕ) → IsSym file at symbol.now →
-        result ≡ lacks_item file (items_of image.now) at }
+        result ≡ lacks_item file (known_items image.now) at }
 {
     image.leaves && is_looked_up(symbol)
 }
@@ -74,7 +81,7 @@ fn may_be_unbound(symbol: &Sym) -> bool
 #[tactic(auto, unfolding(elf_model::specs::ImageItems::own_value, crate::specs::Items::said_by))]
 fn own_value(image: &ImageFile<'_, '_>, symbol: &Sym) -> Result<u64, Cause>
     ensures { (file : List ℕ) (at : ℕ) → IsSym file at symbol.now → IsBased image.now →
-        result ≡ own_value file (items_of image.now) at }
+        result ≡ own_value file (known_items image.now) at }
 {
     if lacks_item(image, symbol) {
         return Err(Cause::Undefined);
@@ -108,7 +115,7 @@ pub(crate) fn thread_value(
 ) -> Result<Option<u64>, Cause>
     ensures { (said : ThreadValue) → ThreadKind kind said → (file : List ℕ) (at : ℕ) →
         IsSymbolOf file at index symbol.now →
-        result ≡ thread_value said file (items_of image.now) index at }
+        result ≡ thread_value said file (known_items image.now) index at }
 {
     if index == 0 {
         return own_thread_value(image, kind, 0);
@@ -128,7 +135,7 @@ fn own_thread_symbol(
 ) -> Result<Option<u64>, Cause>
     ensures { (said : ThreadValue) → ThreadKind kind said → (file : List ℕ) (at : ℕ) →
         IsSym file at symbol.now →
-        result ≡ own_thread_symbol said file (items_of image.now) at }
+        result ≡ own_thread_symbol said file (known_items image.now) at }
 {
     if lacks_item(image, symbol) {
         return Err(Cause::Undefined);
@@ -150,7 +157,7 @@ fn own_thread_value(
     value: u64,
 ) -> Result<Option<u64>, Cause>
     ensures { (said : ThreadValue) → ThreadKind kind said →
-        result ≡ or_unplaced (own_thread_value said (items_of image.now) value) }
+        result ≡ or_unplaced (own_thread_value said (known_items image.now) value) }
 {
     if kind == ItemKind::Value {
         return Ok(Some(value));

@@ -4,7 +4,7 @@ ghost use Rattle.elf_source.specs.Prelude.{KeepsSource};
 ghost use Rattle.elf_image.specs.Within.{ImageWithin, StepsImageWalk, WalkAlive};
 ghost use Rattle.elf_image.specs.declared.walk.WalkStep.TheVariants.{End};
 
-use crate::changes::{EntryResult, ImageChange, ImageFile, StoredBytes};
+use crate::changes::{EntryResult, ImageFile, PlacedBytes, RelocatedBytes};
 use crate::entries::{EntryStep, OrderedEntries, OrderedEntry};
 use crate::entry::entry_result;
 use crate::place::{HeldRange, checked_place};
@@ -28,7 +28,7 @@ pub(crate) struct ImageWalk {
 #[derive(Clone, Copy)]
 pub(crate) enum WalkStep<'a> {
     /// A relative relocation or an entry that stores bytes.
-    Stores(ImageChange<'a>),
+    Stores(PlacedBytes<'a>),
     /// An entry that lacks an item, with the cause of the refusal that it would be.
     Lacks(OrderedEntry, elf_record::Cause),
     /// Nothing: the walk continues.
@@ -128,11 +128,11 @@ fn row_change<'a>(
     image: &ImageFile<'_, 'a>,
     last: &mut Option<HeldRange>,
     row: RelativeRow,
-) -> Result<ImageChange<'a>, Fault> {
+) -> Result<PlacedBytes<'a>, Fault> {
     let place = checked_place(image, last, row.address, 8, row.at)?;
-    Ok(ImageChange {
+    Ok(PlacedBytes {
         place,
         width: 8,
-        bytes: StoredBytes::Based,
+        bytes: RelocatedBytes::Based,
     })
 }

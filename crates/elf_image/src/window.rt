@@ -1,5 +1,10 @@
 //! A window of a segment.
-use crate::changes::{ImageChange, StoredBytes};
+ghost use Rattle.std.specs.Prelude.{◌≡◌, ◌+◌, ◌<◌, ◌≤◌, ◌^◌, length, ℕ};
+ghost use Rattle.elf_model.specs.Apply.{put};
+ghost use Rattle.elf_model.specs.ApplyLaws.{clipped};
+ghost use Rattle.elf_source.specs.Prelude.{KeepsSource};
+
+use crate::changes::{PlacedBytes, RelocatedBytes};
 use crate::image_items::CopyBytes;
 use elf_source::{Counted, READ_BYTES, Source};
 use elf_table::{Fault, fill};
@@ -36,7 +41,11 @@ impl<'w> ImageWindow<'w> {
         segment: SegmentBytes,
         low: u64,
         bytes: &'w mut [u8],
-    ) -> Result<ImageWindow<'w>, Fault> {
+    ) -> Result<ImageWindow<'w>, Fault>
+        requires within { segment.at + segment.size ≤ src.old.seen.size }
+        requires fits { low + length bytes.old < 2 ^ 64 }
+        ensures { KeepsSource src.old.seen src.new.seen }
+    {
         let mut before = [0; EDGE_BYTES];
         let mut after = [0; EDGE_BYTES];
         let edge = (EDGE_BYTES as u64).min(low) as usize;
@@ -64,19 +73,19 @@ impl<'w> ImageWindow<'w> {
 
     /// Stores the part of what a relocation stores in this segment that falls into the window. A
     /// word to which the base is added has not been stored to before.
-    pub(crate) fn store(&mut self, change: &ImageChange<'_>, base: u64) {
+    pub(crate) fn store(&mut self, change: &PlacedBytes<'_>, base: u64) {
         let offset = change.place.offset;
         match &change.bytes {
-            StoredBytes::Based => {
+            RelocatedBytes::Based => {
                 let word = self.word(offset);
                 self.put(offset, &word.wrapping_add(base).to_le_bytes());
             }
-            StoredBytes::Value(patch) => self.put(offset, patch.bytes()),
-            StoredBytes::Pair(first, second) => {
+            RelocatedBytes::Value(patch) => self.put(offset, patch.bytes()),
+            RelocatedBytes::Pair(first, second) => {
                 self.put(offset, &first.to_le_bytes());
                 self.put(offset.saturating_add(8), &second.to_le_bytes());
             }
-            StoredBytes::Copied(bytes) => self.put_copied(offset, bytes),
+            RelocatedBytes::Copied(bytes) => self.put_copied(offset, bytes),
         }
     }
 
@@ -93,30 +102,19 @@ impl<'w> ImageWindow<'w> {
     /// Returns the byte at an offset of the segment; 0 if it is more than 7 bytes away from the
     /// window.
     fn byte(&self, offset: u64) -> u8 {
-        let high = self.low + self.bytes.len() as u64;
+        let high = self.low.saturating_add(self.bytes.len() as u64);
         if offset >= high {
             return byte_in(&self.after, offset - high);
         }
         if offset >= self.low {
             return self.bytes[(offset - self.low) as usize];
         }
-        byte_in(
-            &self.before,
-            (offset + EDGE_BYTES as u64).wrapping_sub(self.low),
-        )
+        byte_before(&self.before, self.low - offset)
     }
 
     /// Stores the part of some bytes that falls into the window.
     fn put(&mut self, offset: u64, bytes: &[u8]) {
-        let high = self.low + self.bytes.len() as u64;
-        let first = offset.max(self.low);
-        let end = offset.saturating_add(bytes.len() as u64).min(high);
-        if first < end {
-            let part = &bytes[(first - offset) as usize..(end - offset) as usize];
-            self.bytes[(first - self.low) as usize..(end - self.low) as usize].copy_from_slice(
-                part,
-            );
-        }
+        put_bytes(self.bytes, self.low, offset, bytes);
     }
 
     /// Stores the part of the bytes of a copied object that falls into the window.
@@ -127,12 +125,41 @@ impl<'w> ImageWindow<'w> {
     }
 }
 
-/// Returns the byte of an index at an edge of a window, 0 for a larger one.
+/// Stores the part of some bytes at an offset that falls into a window, which begins at the offset
+/// `low`.
+fn put_bytes(window: &mut [u8], low: u64, offset: u64, bytes: &[u8])
+    ensures { low + length window.old < 2 ^ 64 → offset + length bytes.now < 2 ^ 64 →
+        window.new
+        ≡ put (clipped low (length window.old) (record { at = offset; bytes = bytes.now }))
+        window.old }
+{
+    let first = offset.max(low);
+    let end = offset
+        .saturating_add(bytes.len() as u64)
+        .min(low.saturating_add(window.len() as u64));
+    if first < end {
+        let part = &bytes[(first - offset) as usize..(end - offset) as usize];
+        window[(first - low) as usize..(end - low) as usize].copy_from_slice(part);
+    }
+}
+
+/// Returns the byte of an index at the edge after a window, 0 for a larger one.
 fn byte_in(edge: &[u8; EDGE_BYTES], index: u64) -> u8 {
     if index >= EDGE_BYTES as u64 {
         return 0;
     }
     edge[index as usize]
+}
+
+/// Returns the byte at the edge before a window, this many bytes before it, at least 1; 0 for one
+/// farther away.
+fn byte_before(edge: &[u8; EDGE_BYTES], distance: u64) -> u8
+    requires { 0 < distance }
+{
+    if distance > EDGE_BYTES as u64 {
+        return 0;
+    }
+    edge[EDGE_BYTES - distance as usize]
 }
 
 /// Reads a part of a segment at an offset of it: the bytes in the file, then zeros.
@@ -141,19 +168,33 @@ fn read_part<S: Source>(
     segment: SegmentBytes,
     low: u64,
     bytes: &mut [u8],
-) -> Result<(), Fault> {
+) -> Result<(), Fault>
+    requires { segment.at + segment.size ≤ src.old.seen.size }
+    ensures keeps { KeepsSource src.old.seen src.new.seen }
+    ensures long { length bytes.new ≡ length bytes.old }
+{
     let held = segment.size.saturating_sub(low).min(bytes.len() as u64) as usize;
-    read_bytes(src, segment.at.saturating_add(low), &mut bytes[..held])?;
+    if held > 0 {
+        read_bytes(src, segment.at.saturating_add(low), &mut bytes[..held])?;
+    }
     bytes[held..].fill(0);
     Ok(())
 }
 
 /// Reads the bytes at an offset of the file, as many as `bytes` has, at most 4,096 at once.
-fn read_bytes<S: Source>(src: &mut Counted<S>, at: u64, bytes: &mut [u8]) -> Result<(), Fault> {
+fn read_bytes<S: Source>(src: &mut Counted<S>, at: u64, bytes: &mut [u8]) -> Result<(), Fault>
+    requires { at + length bytes.old ≤ src.old.seen.size }
+    ensures keeps { KeepsSource src.old.seen src.new.seen }
+    ensures long { length bytes.new ≡ length bytes.old }
+{
     let mut done = 0;
     while done < bytes.len() {
         let count = READ_BYTES.min(bytes.len() - done);
-        fill(src, at + done as u64, &mut bytes[done..done + count])?;
+        fill(
+            src,
+            at.saturating_add(done as u64),
+            &mut bytes[done..done + count],
+        )?;
         done += count;
     }
     Ok(())

@@ -12,14 +12,14 @@ use Rattle.elf_model.specs.declared.relocation_tables.RelocationTable.{Relocatio
 use Rattle.elf_model.specs.declared.relocation_tables.RelocationTable.TheVariants.{Jmprel, Rel, Rela, Relr}
 use Rattle.elf_model.proofs.ListingLemmas.{guarded-fault, guarded-passes}
 use Rattle.elf_source.specs.Output.{OutState}
-use Rattle.elf_table.specs.Prelude.{HoldsProgramHeaders, HoldsSectionHeaders, IsAmong, LoadedFile, NameRead, RefusedBy, Refuses, StoreState, StringTableRange, TableRange, dynamic_table_at, known_symbols, row_at, rows, stop_of, strings_in}
+use Rattle.elf_table.specs.Prelude.{HoldsProgramHeaders, HoldsSectionHeaders, IsSymbolAmong, LoadedFile, NameRead, RefusedBy, Refuses, StoreState, StringTableRange, TableRange, dynamic_table_at, symbols_linked, row_at, rows, stop_of, strings_in}
 use Rattle.elf_table.specs.declared.fault.Fault.{Fault}
 use Rattle.elf_table.specs.declared.fault.Fault.TheVariants.{Refused, Source}
 use Rattle.elf_table.specs.declared.names.NameEnd.{NameEnd}
 use Rattle.elf_hash.specs.Prelude.{FindsSymbols, located_by}
 use Rattle.elf_hash.proofs.SettleLaws.{checked_passes}
 use Rattle.elf_listing.specs.Viewed.{IsViewed, viewed_headers}
-use Rattle.elf_hash.specs.declared.relocation_tables.LocatedTable.{LocatedTable}
+use Rattle.elf_hash.specs.declared.relocation_tables.TableLocation.{TableLocation}
 use Rattle.elf_source.specs.declared.source.Source.{Ghosts as Sources}
 use Rattle.elf_source.specs.declared.sink.Sink.{Ghosts as Sinks}
 use Rattle.elf_table.specs.declared.file.SectionView.{SectionView}
@@ -53,8 +53,8 @@ module _ (file : List ℕ) (cap entry symbol : ℕ) where
   among_found known some few = rw (ne_eqb symbol 0 some, lt-ltb symbol known.count few, named_among) refl
 
   -- a fault of the symbol
-  pub refuses_among : (linked : Option (TableRange × StringTableRange)) (fault : Fault) → IsAmong linked entry symbol (Err fault)
-      → Refuses (named_among file cap (known_symbols file linked) entry symbol).0 fault (named_among file cap (known_symbols file linked) entry symbol).1
+  pub refuses_among : (linked : Option (TableRange × StringTableRange)) (fault : Fault) → IsSymbolAmong linked entry symbol (Err fault)
+      → Refuses (named_among file cap (symbols_linked file linked) entry symbol).0 fault (named_among file cap (symbols_linked file linked) entry symbol).1
   refuses_among None fault is =
       subst (λ (f : Fault). Refuses (named_among file cap None entry symbol).0 f (named_among file cap None entry symbol).1) (sym is.1) (refuses_as _ _ _ (among_none is.0))
   refuses_among (Some symbols) fault is =
@@ -65,13 +65,13 @@ module _ (file : List ℕ) (cap entry symbol : ℕ) where
   pub read_among : (linked : Option (TableRange × StringTableRange)) (table : TableRange) (names : StringTableRange) (place off index : ℕ) (result : Result NameEnd Fault) (name : List ℕ)
       → symbol ≢ 0 → linked ≡ Some (table, names) → index ≡ symbol → table.entry ≡ 24 → symbol < table.count → place ≡ row_at table index → off ≡ st_name file place
       → NameRead place result name (shown (strings_in file names) off cap)
-      → NameRead (named_among file cap (known_symbols file linked) entry symbol).0 result name (named_among file cap (known_symbols file linked) entry symbol).1
+      → NameRead (named_among file cap (symbols_linked file linked) entry symbol).0 result name (named_among file cap (symbols_linked file linked) entry symbol).1
   read_among linked table names place off index result name some is same size few here named read =
       let known : LocatedSymbols = record { place = table.at; count = table.count; strings = strings_in file names } in
       let at : place ≡ table.at + 24 * symbol = here ∙ (ap (λ (i : ℕ). table.at + i * table.entry) same ∙ (ap (λ (n : ℕ). table.at + symbol * n) size ∙ omega arith)) in
       let P : ℕ × Result DisplayedName Cause → Type 0 = λ s. NameRead s.0 result name s.1 in
-      let found : named_among file cap (known_symbols file linked) entry symbol ≡ (place, shown (strings_in file names) off cap) =
-      ap (λ (l : Option (TableRange × StringTableRange)). named_among file cap (known_symbols file l) entry symbol) is
+      let found : named_among file cap (symbols_linked file linked) entry symbol ≡ (place, shown (strings_in file names) off cap) =
+      ap (λ (l : Option (TableRange × StringTableRange)). named_among file cap (symbols_linked file l) entry symbol) is
       ∙ (among_found known some few ∙ sym (ap (λ (n : ℕ). (place, shown (strings_in file names) n cap)) named
       ∙ ap (λ (p : ℕ). (p, shown (strings_in file names) (st_name file p) cap)) at)) in
       subst P (sym found) read
@@ -126,7 +126,7 @@ module _ (file : List ℕ) (style : ListingStyle) (segment at : ℕ) (table : Re
       by (Ok None) e = refl
       by (Ok (Some found)) e = absurd cc
 
-  pub table_found : (located : LocatedTable) → Ok (Some located) ≡ located_by (located_table file at table)
+  pub table_found : (located : TableLocation) → Ok (Some located) ≡ located_by (located_table file at table)
       → relocation_table_rows file style segment at table
       ≡ form_rows located.form file style segment (record { form = located.form; place = located.table.at; count = located.table.count }) (located_symbols file at)
   unfolding relocation_table_rows located_rows
@@ -138,9 +138,9 @@ module _ (file : List ℕ) (style : ListingStyle) (segment at : ℕ) (table : Re
       by (Err refusal) e = absurd cc
       by (Ok None) e = absurd cc
       by (Ok (Some found)) e =
-          let told : LocatedTable = record { form = found.form; table = record { at = found.place; count = found.count; entry = form_size found.form } } in
+          let told : TableLocation = record { form = found.form; table = record { at = found.place; count = found.count; entry = form_size found.form } } in
           let same : located ≡ told = cc in
-          let rows : LocatedTable → List ListingItem = λ l. form_rows l.form file style segment (record { form = l.form; place = l.table.at; count = l.table.count }) (located_symbols file at) in
+          let rows : TableLocation → List ListingItem = λ l. form_rows l.form file style segment (record { form = l.form; place = l.table.at; count = l.table.count }) (located_symbols file at) in
           sym (ap rows same)
 
 -- the rows by the form of a table
@@ -166,7 +166,7 @@ symbols_refused addends file style segment table symbols a (Source fault offset)
 
 pub symbols_known : (addends : Bool) (file : List ℕ) (style : ListingStyle) (segment : ℕ) (table : IsLocated) (symbols : Result (Option LocatedSymbols) Refusal) (linked : Option (TableRange × StringTableRange))
     → FindsSymbols file symbols (Ok linked)
-    → entries_rows addends file style segment table symbols ≡ each (located_row addends file style segment (known_symbols file linked) table.place) 0 table.count
+    → entries_rows addends file style segment table symbols ≡ each (located_row addends file style segment (symbols_linked file linked) table.place) 0 table.count
 unfolding entries_rows
 symbols_known addends file style segment table symbols linked is = ap (entries_rows addends file style segment table) is
 

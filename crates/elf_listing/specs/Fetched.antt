@@ -5,7 +5,7 @@ use Rattle.elf_source.specs.declared.source.Source.{Ghosts as Sources}
 use Rattle.elf_source.specs.declared.sink.Sink.{Ghosts as Sinks}
 use Rattle.elf_record.specs.Prelude.{IsDyn}
 use Rattle.elf_record.specs.declared.dyn_entry.Dyn.{Dyn}
-use Rattle.elf_table.specs.Prelude.{NameRead, RefersTo, StringTableRange, TableRange, known_symbols}
+use Rattle.elf_table.specs.Prelude.{NameRead, RefersTo, StringTableRange, TableRange, symbols_linked}
 use Rattle.elf_table.specs.declared.fault.Fault.{Fault}
 use Rattle.elf_table.specs.declared.names.NameEnd.{NameEnd}
 use Rattle.elf_listing.specs.Parts.{name_cost, shown_in}
@@ -31,7 +31,7 @@ pub record FetchesLinked {S W : Type 0} {s : Sources S} {w : Sinks W} (old new :
   pub read : (file : List ℕ) (header : ℕ) → old.src.now.seen.file ≡ Some file → RefersTo file header linked
       → NameRead (symbol_named file old.style.cap.bytes header at symbol).0 (end_read result) new.name (symbol_named file old.style.cap.bytes header at symbol).1
   pub among : (file : List ℕ) → old.src.now.seen.file ≡ Some file
-      → NameRead (named_among file old.style.cap.bytes (known_symbols file linked) at symbol).0 (end_read result) new.name (named_among file old.style.cap.bytes (known_symbols file linked) at symbol).1
+      → NameRead (named_among file old.style.cap.bytes (symbols_linked file linked) at symbol).0 (end_read result) new.name (named_among file old.style.cap.bytes (symbols_linked file linked) at symbol).1
   pub defined : (file : List ℕ) (header : ℕ) → old.src.now.seen.file ≡ Some file → RefersTo file header linked → (symbol == 0) ≡ false
       → IfOk result (λ read. read.is_defined ≡ not (st_shndx file (entry_at file (linked_at file header) SYMBOL_SIZE symbol) == SHN_UNDEF))
 

@@ -1,13 +1,12 @@
 -- What dynamic entries locate: the effect of calls that list it.
 use Rattle.std.specs.Prelude.{ℕ, ◌≡◌, ◌+◌, ◌*◌, Bool, List, Option, Some, Result, IfSome}
-use Rattle.elf_model.specs.Prelude.{ListingItem, LocatedTable, SYMBOL_SIZE, entries_rows, form_rows, located_row, located_symbols, name_bytes, relocation_size, relocation_table_rows, segment_at}
-use Rattle.elf_model.specs.declared.relocation_tables.RelocationForm.TheVariants.{WithAddends, WithoutAddends}
+use Rattle.elf_model.specs.Prelude.{ListingItem, SYMBOL_SIZE, entries_rows, located_row, located_symbols, name_bytes, relocation_size, relocation_table_rows, segment_at}
 use Rattle.elf_model.specs.declared.relocation_tables.RelocationForm.{RelocationForm}
 use Rattle.elf_model.specs.declared.relocation_tables.RelocationTable.{RelocationTable}
 use Rattle.elf_options.specs.Permitted.{style_of}
 use Rattle.elf_source.specs.declared.source.Source.{Ghosts as Sources}
 use Rattle.elf_source.specs.declared.sink.Sink.{Ghosts as Sinks}
-use Rattle.elf_table.specs.Prelude.{HoldsProgramHeaders, SymbolTableInBounds, TableRange, known_symbols}
+use Rattle.elf_table.specs.Prelude.{HoldsProgramHeaders, SymbolTableInBounds, TableRange, symbols_linked}
 use Rattle.elf_table.specs.declared.run_fault.RunFault.{RunFault}
 use Rattle.elf_hash.specs.Prelude.{AreTaggedEntries}
 use Rattle.elf_listing.specs.Parts.{table_most}
@@ -24,7 +23,7 @@ located_layout rows = record {
   listed = λ file table. table.count;
   fits = λ index. Unit {0};
   own_cost = λ versions cap. SYMBOL_SIZE + name_bytes cap;
-  items = λ versions file style table_at. located_row rows.has_addends file style rows.segment (known_symbols file rows.linked) table_at;
+  items = λ versions file style table_at. located_row rows.has_addends file style rows.segment (symbols_linked file rows.linked) table_at;
   within = λ versions size. IfSome rows.linked (SymbolTableInBounds size);
   here = λ versions file table_at. Unit {0};
 }
@@ -36,14 +35,14 @@ pub record ViewsEntries (size : ℕ) (seen : Option (List ℕ)) (entries : Segme
   pub tagged : (file : List ℕ) → seen ≡ Some file → AreTaggedEntries file (segment_at file entries.segment) entries.found
 
 -- a call that lists items, and reads at most what some tables do
-abbrev pub ListsBy : {S W X : Type 0} {s : Sources S} {w : Sinks W} → Listing S W s w → Listing S W s w → Result X RunFault → (tables : ℕ) → (List ℕ → List ListingItem) → Type 0
-ListsBy old new result tables items =
+abbrev pub ListsLocatedBy : {S W X : Type 0} {s : Sources S} {w : Sinks W} → Listing S W s w → Listing S W s w → Result X RunFault → (tables : ℕ) → (List ℕ → List ListingItem) → Type 0
+ListsLocatedBy old new result tables items =
     ListingCalls old new result (tables * table_most old.file.loaded.size old.style.cap.bytes) (ListingWrote old new result items)
 
 -- one of the tables
 abbrev pub ListsTable : {S W X : Type 0} {s : Sources S} {w : Sinks W} → Listing S W s w → Listing S W s w → Result X RunFault → SegmentEntries → RelocationTable → Type 0
 ListsTable old new result entries table =
-    ListsBy old new result 1 (λ file. relocation_table_rows file (style_of old.style) entries.segment (segment_at file entries.segment) table)
+    ListsLocatedBy old new result 1 (λ file. relocation_table_rows file (style_of old.style) entries.segment (segment_at file entries.segment) table)
 
 -- the entries of a table
 abbrev pub ListsEntries : {S W X : Type 0} {s : Sources S} {w : Sinks W} → Listing S W s w → Listing S W s w → Result X RunFault → SegmentEntries → TableRange → (addends : Bool) → Type 0

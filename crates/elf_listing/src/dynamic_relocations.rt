@@ -4,7 +4,7 @@ ghost use Rattle.elf_model.specs.Prelude.{RELOCS, dynamic_relocations, follows_d
 ghost use Rattle.elf_options.specs.Permitted.{style_of};
 ghost use Rattle.elf_table.specs.Tables.{TableInBounds};
 ghost use Rattle.elf_listing.specs.HeadersListed.{ListsLocated, ListsView};
-ghost use Rattle.elf_listing.specs.Located.{ListsBy, ListsEntries, ListsTable, ViewsEntries, located_layout};
+ghost use Rattle.elf_listing.specs.Located.{ListsLocatedBy, ListsEntries, ListsTable, ViewsEntries, located_layout};
 ghost use Rattle.elf_listing.specs.Parts.{table_most};
 ghost use Rattle.elf_listing.specs.Viewed.{viewed_headers};
 
@@ -115,7 +115,7 @@ fn list_located<S: Source, W: Sink>(
     listing: &mut Listing<'_, '_, '_, '_, S, W>,
 ) -> Result<(), RunFault>
     requires { listing.old.file.store.now.segments ≡ listing.old.file.loaded.header.e_phnum }
-    ensures { ListsBy listing.old listing.new result 5
+    ensures { ListsLocatedBy listing.old listing.new result 5
         (λ file. dynamic_relocations file (style_of listing.old.style)) }
 {
     let view = ExecutionView {
@@ -135,7 +135,7 @@ fn list_segment<S: Source, W: Sink>(
     segment: u16,
 ) -> Result<(), RunFault>
     requires { segment < listing.old.file.store.now.segments }
-    ensures { ListsBy listing.old listing.new result 5 (λ file. let at = segment_at file segment in
+    ensures { ListsLocatedBy listing.old listing.new result 5 (λ file. let at = segment_at file segment in
         guarded (segment_dynamic_checks file at)
         (segment_relocations file (style_of listing.old.style) segment at)) }
 {
@@ -156,7 +156,7 @@ fn list_tables<S: Source, W: Sink>(
     entries: &SegmentEntries<'_>,
 ) -> Result<(), RunFault>
     requires { ViewsEntries listing.old.file.loaded.size listing.old.src.now.seen.file entries.now }
-    ensures { ListsBy listing.old listing.new result 4 (λ file.
+    ensures { ListsLocatedBy listing.old listing.new result 4 (λ file.
         segment_relocations file (style_of listing.old.style) entries.now.segment
         (segment_at file entries.now.segment)) }
 {

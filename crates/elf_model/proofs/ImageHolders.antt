@@ -1,11 +1,11 @@
 -- Which LOAD segment has bytes in memory.
-use Rattle.std.proofs.Common.{◌≡◌, ℕ, zero, suc, ◌+◌, ◌*◌, ◌/◌, ◌≤◌, ◌<◌, ◌==◌, ◌&&◌, not, nat_lt, inl, inr, Bool, true, false, List, Option, None, Some, refl, sym, ap, ◌∙◌, arith}
+use Rattle.std.proofs.Common.{◌≡◌, ℕ, ◌+◌, ◌*◌, ◌/◌, ◌≤◌, ◌<◌, ◌==◌, ◌&&◌, not, nat_lt, inl, inr, true, List, arith}
 use Rattle.std.proofs.Math.Nat.{div-mul-le_self}
 use Rattle.std.proofs.lemmas.Bool.{and_from, and_parts, cases_Bool, eqb-true, false_from_ne_true, ltb-false, not-true, not_from_false}
 use Rattle.elf_model.specs.Image.{holder_of, holds_in_memory}
 use Rattle.elf_model.specs.ImageLaws.{HolderIsOne}
 use Rattle.elf_model.specs.Numbers.{PT_LOAD}
-use Rattle.elf_model.specs.Prelude.{e_phnum, first_page, overlap_checks, p_memsz, p_type, p_vaddr, page_behind, pass, segment_at, takes_memory}
+use Rattle.elf_model.specs.Prelude.{e_phnum, p_memsz, p_type, p_vaddr, segment_at, takes_memory}
 use Rattle.elf_model.proofs.LookupSteps.{first_that-some}
 use Rattle.elf_model.proofs.OverlapLemmas.{no_page_shared}
 

@@ -1,5 +1,5 @@
 -- Laws of images.
-use Rattle.std.proofs.Common.{◌≡◌, ℕ, zero, suc, ◌+◌, ◌-◌, ◌*◌, ◌%◌, ◌^◌, ◌≤◌, ◌<◌, ◌==◌, ◌&&◌, ◌||◌, not, nat_lt, nat_le, get_or, inl, inr, Bool, true, false, List, [], ◌∷◌, ◌++◌, length, length-append, replicate, map, filter, flat_map, All, Option, None, Some, Result, Ok, Err, refl, sym, ap, subst, ◌∙◌, arith}
+use Rattle.std.proofs.Common.{◌≡◌, ℕ, zero, suc, ◌+◌, ◌-◌, ◌%◌, ◌^◌, ◌≤◌, ◌<◌, ◌==◌, ◌&&◌, ◌||◌, not, nat_lt, nat_le, get_or, inl, inr, Bool, true, false, List, [], ◌∷◌, ◌++◌, length, length-append, replicate, map, filter, flat_map, All, Option, None, Some, Result, Ok, Err, refl, sym, ap, subst, ◌∙◌, arith}
 use Rattle.std.specs.Prelude.{option_to_list}
 use Rattle.std.specs.List.{list_any}
 use Rattle.std.proofs.lemmas.Bool.{cases_Bool, cases_eq, and_parts, eqb-true, leb-true, ltb-false, ltb-true, not-true, or_parts}
@@ -8,7 +8,7 @@ use Rattle.std.proofs.lemmas.List.Elements.{All-nil, All-cons, All-append, All-h
 use Rattle.elf_model.specs.Prelude.{AllInside, IsInside, StoredBytes, byte_after, byte_with, dynamic_segment_index, e_phnum, header_checks, is_outside, load_checks, overlap_checks, p_filesz, p_offset, patched, places_from, slice, without_sections, first_refusal, little, p_memsz, p_type, p_vaddr, r_offset, r_type, segment_at}
 use Rattle.elf_model.specs.Numbers.{DT_RELACOUNT, PT_LOAD, R_X86_64_NONE, R_X86_64_RELATIVE}
 use Rattle.elf_model.specs.Checks.{Check, refuse}
-use Rattle.elf_model.specs.Image.{ImageChange, ImageSource, Keeps, Lacks, Refuses, RelativeAddress, SegmentWrite, Stores, and_writes, change_by, change_of_type, direct_change, direct_changes, dynamic_image_checks, entry_change, entry_ranges, has_table, holder_of, holds_in_memory, image_changes, is_lack, is_resolved, kind_checks, linkage_table, meets_rows, place_checks, image, image_by_segments, image_checks, range_changes, read_addresses, rela_table, relative_changes, relative_table, relocated_segment, relocation_changes, requested_checks, resolved_changes, row_value, segment_load_checks, segments_load_checks, stored_at, stored_in, table_addresses, unrelocated, word_before, writes_in, writes_of}
+use Rattle.elf_model.specs.Image.{ImageChange, ImageSource, Keeps, Lacks, Refuses, RelativeAddress, SegmentWrite, Stores, and_writes, change_by, change_of_type, direct_change, direct_changes, dynamic_image_checks, entry_change, entry_ranges, has_table, holder_of, holds_in_memory, image_changes, is_lack, is_resolved, kind_checks, linkage_table, meets_rows, place_checks, image, image_by_segments, image_checks, range_changes, read_addresses, rela_table, relative_changes, relative_table, relocated_segment, relocation_changes, requested_checks, resolved_changes, row_value, segment_load_checks, segments_load_checks, stored_at, stored_in, table_addresses, unrelocated, word_before, writes_of}
 use Rattle.elf_model.specs.ImageValues.{changed_size, dynamic_symbol_checks, dynamic_type, entry_symbol, stored_bytes}
 use Rattle.elf_model.specs.RelativeRelocations.{LAST_ADDRESS}
 use Rattle.elf_model.specs.ImageItems.{ItemValues}

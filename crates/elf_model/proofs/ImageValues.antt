@@ -1,10 +1,10 @@
 -- What an entry stores fits its place.
-use Rattle.std.proofs.Common.{◌≡◌, ℕ, ◌+◌, ◌%◌, ◌^◌, ◌≤◌, ◌==◌, nat_lt, inl, inr, Bool, true, false, List, [], ◌∷◌, ◌++◌, length, length-append, Option, None, Some, Result, Ok, Err, refl, sym, ap, ◌∙◌, arith}
+use Rattle.std.proofs.Common.{◌≡◌, ℕ, ◌+◌, ◌%◌, ◌^◌, ◌≤◌, ◌==◌, nat_lt, inl, inr, Bool, true, false, List, [], ◌++◌, length, length-append, Option, None, Some, Result, Ok, Err, refl, arith}
 use Rattle.std.proofs.lemmas.Bool.{cases_Bool, ltb-false}
 use Rattle.elf_model.specs.ImageItems.{ItemValues, FromPointer, InBlock, ModuleId, bound_value, bytes_for, called_value, is_looked_up, thread_value}
-use Rattle.elf_model.specs.ImageValues.{changed_size, copied_bytes, descriptor_bytes, low_four_bytes, place_of_entry, placed_value, stored_bytes, word_if_bound, word_of}
+use Rattle.elf_model.specs.ImageValues.{changed_size, copied_bytes, descriptor_bytes, low_four_bytes, placed_value, stored_bytes, word_if_bound, word_of}
 use Rattle.elf_model.specs.Placing.{address_in}
-use Rattle.elf_model.specs.Prelude.{FormulaTerms, kind_of, little, patch_of, r_addend, r_sym, st_size, twos_complement, value}
+use Rattle.elf_model.specs.Prelude.{kind_of, little, r_addend, r_sym, st_size, twos_complement, value}
 use Rattle.elf_model.specs.Values.{kind_in, kinds}
 use Rattle.elf_model.specs.declared.causes.Cause.{Cause}
 use Rattle.elf_model.specs.declared.dynamic_types.DynamicType.{DynamicType}

@@ -3,7 +3,6 @@ use Rattle.std.proofs.Common.{◌≡◌, ℕ, ◌&&◌, ◌||◌, true, false, O
 use Rattle.std.specs.Prelude.{is_some}
 use Rattle.elf_model.specs.PlaceFilters.{is_at, is_in_memory}
 use Rattle.elf_model.specs.SymbolFilterLaws.{EveryPlaceIsShown}
-use Rattle.elf_model.specs.declared.place_filters.RowPlace.{RowPlace}
 
 pub every_place_is_shown : EveryPlaceIsShown
 every_place_is_shown filter row none = by filter.at filter.address none

@@ -1,11 +1,11 @@
 -- Relative relocations are a lawful kind of table, and so are the relocations of GNU listings: those
 -- of one lawful kind or another.
-use Rattle.std.proofs.Common.{◌≡◌, ℕ, ◌*◌, ◌/◌, ◌<◌, ◌≤◌, ◌==◌, ◌&&◌, ◌||◌, if◌then◌else◌, Bool, true, false, List, [], ◌∷◌, ◌++◌, refl, ap, ap₂, ◌∙◌, sym, arith}
+use Rattle.std.proofs.Common.{◌≡◌, ℕ, ◌*◌, ◌/◌, ◌≤◌, ◌==◌, ◌&&◌, ◌||◌, if◌then◌else◌, Bool, true, false, List, [], ◌∷◌, ◌++◌, refl, ap, ap₂, ◌∙◌, sym, arith}
 use Rattle.std.proofs.Math.Nat.{div-mul-le_self}
 use Rattle.elf_model.specs.Prelude.{Check, HeaderTable, TableKind, cost_where, either_kind, entries_kind, gnu_relocations, header_field, held_headers, pass, relative_relocations, relocation_type, relocations, relocations_with_versions, sh_size, sh_type, table_cost}
 use Rattle.elf_model.specs.TableKinds.{relocations_kind}
-use Rattle.elf_model.proofs.HeldHeaders.{AreHeld, kind-equal, size_held, table_held, type_held}
-use Rattle.elf_model.proofs.LawfulKinds.{CostsTheSame, IsTyped, LawfulKind, LawfulSection, ReadsWithin, is_among, one-among}
+use Rattle.elf_model.proofs.HeldHeaders.{kind-equal, size_held, table_held, type_held}
+use Rattle.elf_model.proofs.LawfulKinds.{CostsTheSame, IsTyped, LawfulSection, ReadsWithin, is_among, one-among}
 use Rattle.elf_model.proofs.SelectionLaws.{either_same, relative_same}
 use Rattle.elf_model.proofs.SymbolKinds.{entries_lawful}
 use Rattle.elf_model.proofs.TableBounds.{most_bound, table_bound, table_fits, within_most}

@@ -3,7 +3,7 @@
 -- Dynamic Linking; x86-64 psABI, Relocation). The definitions are over a file that has no section
 -- headers; the image is of the bytes of the file as it is. A program header of dynamic entries is at
 -- an offset `at`, a relocation entry at an offset `rela`.
-use Rattle.std.specs.Prelude.{ℕ, zero, suc, ◌+◌, ◌-◌, ◌*◌, ◌/◌, ◌%◌, ◌^◌, ◌==◌, ◌&&◌, ◌||◌, nat_lt, not, is_some, if◌then◌else◌, Bool, true, false, List, [], ◌∷◌, ◌++◌, length, replicate, flat_map, map, filter, Option, None, Some, option_to_list, unwrap_or, Result, Ok, Err}
+use Rattle.std.specs.Prelude.{ℕ, ◌+◌, ◌-◌, ◌*◌, ◌/◌, ◌%◌, ◌^◌, ◌==◌, ◌&&◌, ◌||◌, nat_lt, not, is_some, if◌then◌else◌, Bool, true, false, List, [], ◌∷◌, ◌++◌, length, replicate, flat_map, map, filter, Option, None, Some, option_to_list, unwrap_or, Result, Ok, Err}
 use Rattle.std.specs.List.{list_any}
 use Rattle.elf_model.specs.Apply.{StoredBytes, patched, places_from}
 use Rattle.elf_model.specs.Bytes.{field, little, slice}

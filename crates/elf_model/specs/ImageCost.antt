@@ -1,5 +1,5 @@
 -- How many bytes may be read to make the image of a segment, and what is printed of it.
-use Rattle.std.specs.Prelude.{ℕ, ◌+◌, ◌-◌, ◌*◌, ◌/◌, ◌==◌, ◌&&◌, ◌||◌, nat_lt, not, Bool, List, length, filter, Option, None, Some, Result, Ok, Err}
+use Rattle.std.specs.Prelude.{ℕ, ◌+◌, ◌-◌, ◌*◌, ◌/◌, ◌==◌, ◌&&◌, ◌||◌, nat_lt, not, Bool, List, length, filter, Option, None, Some}
 use Rattle.std.specs.List.{list_any}
 use Rattle.elf_model.specs.Answer.{Answer}
 use Rattle.elf_model.specs.Apply.{places_from}

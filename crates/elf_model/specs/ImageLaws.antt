@@ -1,6 +1,6 @@
 -- Laws of images: what lies where, what is left as it is in the file, and that a segment may be made
 -- in windows of any size.
-use Rattle.std.specs.Prelude.{ℕ, ◌+◌, ◌≤◌, ◌<◌, ◌≡◌, ◌||◌, Bool, true, false, List, [], length, get_or, map, All, Option, None, Some, Ok}
+use Rattle.std.specs.Prelude.{ℕ, ◌+◌, ◌≤◌, ◌<◌, ◌≡◌, ◌||◌, Bool, true, false, List, length, get_or, map, All, None, Some, Ok}
 use Rattle.std.specs.List.{list_any}
 use Rattle.elf_model.specs.Apply.{StoredBytes, patched}
 use Rattle.elf_model.specs.ApplyLaws.{AllInside, clipped}

@@ -1,9 +1,9 @@
 -- WHAT A PROCESS'S ITEMS LACK for the image of a file: the relocation entries that have no value by
 -- them, and their lines. An entry is at an offset of the file.
-use Rattle.std.specs.Prelude.{ℕ, true, List, [], ◌∷◌, flat_map, codes, Option, None, Some, Result, Ok, Err}
+use Rattle.std.specs.Prelude.{ℕ, true, List, [], ◌∷◌, flat_map, codes, None, Some, Result, Ok, Err}
 use Rattle.elf_model.specs.Causes.{cause_word}
 use Rattle.elf_model.specs.Checks.{first_refusal}
-use Rattle.elf_model.specs.Fields.{Field, Fields, closed_line}
+use Rattle.elf_model.specs.Fields.{Fields, closed_line}
 use Rattle.elf_model.specs.Fields.Field.{ArgSpec, Decimal, Hexadecimal}
 use Rattle.elf_model.specs.Image.{ImageChange, Keeps, Lacks, Refuses, Stores, image_changes, image_checks}
 use Rattle.elf_model.specs.ImageItems.{ItemValues}

@@ -1,7 +1,7 @@
 -- Which versions the objects of a program need of each other and don't find, so that a GNU loader
 -- does not start it (Linux Standard Base Core, Symbol Versioning; glibc, elf/dl-version.c), and the
 -- lines of these.
-use Rattle.std.specs.Prelude.{ℕ, suc, ◌==◌, ◌&&◌, nat_lt, not, is_none, is_some, if◌then◌else◌, Bool, true, false, List, [], ◌∷◌, ◌++◌, length, codes, get_or, position, Option, None, Some, Result, Ok, Err}
+use Rattle.std.specs.Prelude.{ℕ, suc, ◌==◌, nat_lt, not, is_none, if◌then◌else◌, Bool, true, false, List, [], ◌∷◌, ◌++◌, length, codes, get_or, position, Option, None, Some, Result, Ok, Err}
 use Rattle.std.specs.Int.RustNames.{bit_and}
 use Rattle.elf_model.specs.Bindings.{whole_name}
 use Rattle.elf_model.specs.Checks.{first_refusal}

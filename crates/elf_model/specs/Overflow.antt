@@ -1,5 +1,5 @@
 -- The value of a relocation entry that was refused because it does not fit.
-use Rattle.std.specs.Prelude.{ℕ, ◌==◌, Bool, true, false, List, Option, None, Some, Result, Ok, Err}
+use Rattle.std.specs.Prelude.{ℕ, ◌==◌, true, false, List, Option, None, Some, Result, Ok, Err}
 use Rattle.elf_model.specs.Apply.{ApplyTarget, named_value, symbol_checks}
 use Rattle.elf_model.specs.Checks.{first_refusal}
 use Rattle.elf_model.specs.Explain.{refused_in, resolved_symbol_name}

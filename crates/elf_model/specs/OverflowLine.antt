@@ -5,7 +5,6 @@ use Rattle.elf_model.specs.Explain.{explained}
 use Rattle.elf_model.specs.ExplainLine.{explanation, is_unnamed}
 use Rattle.elf_model.specs.Lines.{name_text}
 use Rattle.elf_model.specs.NameTables.{number_sign}
-use Rattle.elf_model.specs.Names.{DisplayedName}
 use Rattle.elf_model.specs.Numbers.{EM_X86_64}
 use Rattle.elf_model.specs.Overflow.{OverflowEntry, overflowed}
 use Rattle.elf_model.specs.Placing.{Layout}

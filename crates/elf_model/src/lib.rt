@@ -47,8 +47,8 @@ pub use dynamic_types::DynamicType;
 pub use fault_rows::FaultRow;
 pub use formats::{Format, LinePlace, TableState};
 pub use link_states::{
-    FurtherDefinition, IndexEntry, KeyEntry, KeyState, LinkCause, LinkRefusal, LinkRow, RowKind,
-    RowReason, SharedDefinition, SharedKind, StateChange, SymbolRole, SymbolUse,
+    FurtherDefinition, IndexEntry, KeyEntry, KeyState, LinkCause, LinkRefusal, LinkRow,
+    LinkRowKind, RowReason, SharedDefinition, SharedKind, StateChange, SymbolRole, SymbolUse,
 };
 pub use missing::{LayoutAddress, MissingAddress, OverflowedValue};
 pub use place_filters::{PlaceFilter, PlaceRange, RowPlace};

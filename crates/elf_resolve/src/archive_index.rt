@@ -1,7 +1,7 @@
 //! The index of an archive: of each name that a member defines, the member.
 ghost use Rattle.std.specs.Prelude.{◌<◌, IfSome};
 
-use crate::archives::{ArchiveTables, member_at, members_from, read_header_at};
+use crate::archives::{ArchiveTables, archive_member, members_from, read_header_at};
 use crate::link_faults::{LinkFault, full, refused};
 use crate::string_buffer::{HeldText, StringBuffer, part_of, split_version};
 use elf_archive::MEMBER_HEADER_BYTES;
@@ -54,7 +54,7 @@ pub(crate) fn read_index<S: Source>(
         next = next.saturating_add(name.size).saturating_add(1);
         let at = parts.place(index);
         let offset = parts.offset(strings, index);
-        let Some(member) = member_at(members_from(&tables.members, first), offset) else {
+        let Some(member) = archive_member(members_from(&tables.members, first), offset) else {
             return refused(at, LinkCause::IndexMember);
         };
         let entry = entry_named_as(strings, name, member, at, keys)?;

@@ -37,7 +37,7 @@ pub use lines::{LinkLines, show_link};
 pub use link_faults::{LinkFault, link_cause_word};
 pub use link_files::{InputKind, LinkFiles, LinkInput, LinkPlan, LinkStep, OpenFault};
 pub use linker_names::LinkOutput;
-pub use passes::{ArchiveInput, Link, ArchiveObjects, pass_index, search_archive, visit_entry};
+pub use passes::{ArchiveInput, ArchiveObjects, Link, pass_index, search_archive, visit_entry};
 pub use resolver::{LinkEnd, Resolver};
 pub use room::{LinkCaps, LinkRoom};
 pub use rows::RowTable;

@@ -198,8 +198,8 @@ fn find_definition<S: Source>(
     keys: &KeyTable<'_>,
 ) -> Result<bool, LinkFault> {
     let loaded = load_headers(src, store)?;
-    let object = read_tables(src, SectionView { loaded, store }, strings)?;
-    let Some(symbols) = object.symbols else {
+    let tables = read_tables(src, &SectionView { loaded, store }, strings)?;
+    let Some(symbols) = tables.symbols else {
         return Ok(false);
     };
     let rows = strings.bytes(symbols.rows);

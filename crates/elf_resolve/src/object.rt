@@ -43,12 +43,9 @@ pub(crate) struct SymbolRows {
     pub names: HeldText,
 }
 
-/// A file whose tables are read: its headers, its symbols, if it has some, and the names of its
-/// sections.
-#[derive(Drop)]
-pub(crate) struct LinkObject<'v> {
-    /// Its section headers.
-    pub view: SectionView<'v>,
+/// The tables of an object in a buffer: its symbols, if it has some, and the names of its sections.
+#[derive(Clone, Copy)]
+pub(crate) struct ObjectTables {
     /// Its symbol table.
     pub symbols: Option<SymbolRows>,
     /// The names of its sections.
@@ -88,11 +85,12 @@ fn take_into<S: Source>(
     row: u32,
 ) -> Result<(), LinkFault> {
     let loaded = load_headers(src, store)?;
-    let object = read_tables(src, SectionView { loaded, store }, strings)?;
-    marks.clear(object.view.sections());
-    drop_groups(src, &object, strings, marks, keys)?;
-    note_sections(&object, strings, marks, keys)?;
-    take_symbols(&object, strings, marks, keys, row)
+    let view = SectionView { loaded, store };
+    let tables = read_tables(src, &view, strings)?;
+    marks.clear(view.sections());
+    drop_groups(src, &view, tables, strings, marks, keys)?;
+    note_sections(&view, tables, strings, marks, keys)?;
+    take_symbols(tables, strings, marks, keys, row)
 }
 
 /// Loads the section headers of a relocatable file for x86-64.
@@ -119,25 +117,47 @@ pub(crate) fn load_headers<S: Source>(
 ///
 /// # Errors
 /// Those of the tables; there is no room for them.
-pub(crate) fn read_tables<'v, S: Source>(
+pub(crate) fn read_tables<S: Source>(
     src: &mut Counted<S>,
-    view: SectionView<'v>,
+    view: &SectionView<'_>,
     strings: &mut StringBuffer,
-) -> Result<LinkObject<'v>, LinkFault> {
+) -> Result<ObjectTables, LinkFault> {
     strings.forget_after(0);
-    let symbols = match view.first(SHT_SYMTAB) {
-        Some(section) => Some(read_symbols(src, &view, section, strings)?),
-        None => None,
+    let symbols = read_first_symbols(src, view, strings)?;
+    let sections = read_section_names(src, view, strings)?;
+    Ok(ObjectTables { symbols, sections })
+}
+
+/// Reads the first symbol table, if there is one.
+///
+/// # Errors
+/// Those of the table; there is no room for it.
+fn read_first_symbols<S: Source>(
+    src: &mut Counted<S>,
+    view: &SectionView<'_>,
+    strings: &mut StringBuffer,
+) -> Result<Option<SymbolRows>, LinkFault> {
+    let Some(section) = view.first(SHT_SYMTAB) else {
+        return Ok(None);
     };
-    let sections = match view.names() {
-        Some(names) => Some(read_names(src, names, NAMES_AT, strings)?),
-        None => None,
+    let symbols = read_symbols(src, view, section, strings)?;
+    Ok(Some(symbols))
+}
+
+/// Reads the names of sections, if there are some.
+///
+/// # Errors
+/// There is no room for them; those of reading them.
+fn read_section_names<S: Source>(
+    src: &mut Counted<S>,
+    view: &SectionView<'_>,
+    strings: &mut StringBuffer,
+) -> Result<Option<HeldText>, LinkFault> {
+    let Some(names) = view.names() else {
+        return Ok(None);
     };
-    Ok(LinkObject {
-        view,
-        symbols,
-        sections,
-    })
+    let names = read_names(src, names, NAMES_AT, strings)?;
+    Ok(Some(names))
 }
 
 /// Reads a string table.

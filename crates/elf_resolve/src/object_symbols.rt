@@ -1,7 +1,7 @@
 //! The symbols of an object.
 
 use crate::link_faults::{LinkFault, full, refused};
-use crate::object::{LinkObject, symbol_in};
+use crate::object::{ObjectTables, symbol_in};
 use crate::section_marks::SectionMarks;
 use crate::string_buffer::{HeldText, StringBuffer, split_version};
 use elf_model::{LinkCause, SymbolRole, SymbolUse};
@@ -10,7 +10,7 @@ use elf_record::numbers::{
     SHN_ABS, SHN_COMMON, SHN_LORESERVE, SHN_UNDEF, STB_GLOBAL, STB_WEAK, STT_FUNC, STV_DEFAULT,
 };
 use crate::symbols::Symbol;
-use crate::table::KeyTable;
+use crate::table::{KeyFault, KeyTable};
 
 /// The binding of a symbol that is one in all of a process, as GNU files have it.
 const STB_GNU_UNIQUE: u8 = 10;
@@ -29,13 +29,13 @@ const LTO_MARK: &[u8] = b"__gnu_lto_slim";
 /// # Errors
 /// The first fault of a symbol or its name; there is no room for a key.
 pub(crate) fn take_symbols(
-    object: &LinkObject<'_>,
+    tables: ObjectTables,
     strings: &mut StringBuffer,
     marks: &SectionMarks,
     keys: &mut KeyTable<'_>,
     row: u32,
 ) -> Result<(), LinkFault> {
-    let Some(symbols) = object.symbols else {
+    let Some(symbols) = tables.symbols else {
         return Ok(());
     };
     for index in symbols.first..symbols.count {
@@ -70,25 +70,59 @@ fn take_symbol(
     keys: &mut KeyTable<'_>,
     row: u32,
 ) -> Result<(), LinkFault> {
-    if strings.bytes(name) == LTO_MARK {
+    if is_lto_mark(strings.bytes(name)) {
         return refused(at, LinkCause::Lto);
     }
     if name.size == 0 {
         return Ok(());
     }
     let (name, default) = key_names(strings, name, symbol.role, at)?;
-    let default_name = match default {
-        Some(default) => Some(strings.bytes(default)),
-        None => None,
-    };
-    let symbol = Symbol {
-        name: strings.bytes(name),
-        default_name,
-        symbol,
-    };
-    match keys.take(symbol, Some(row)) {
+    let taken = take_names(strings, name, default, symbol, keys, row);
+    match taken {
         Ok(()) => Ok(()),
         Err(fault) => Err(full(at, fault)),
+    }
+}
+
+/// Returns `true` if a name is the mark of an object with intermediate code alone.
+fn is_lto_mark(name: &[u8]) -> bool {
+    name == LTO_MARK
+}
+
+/// TakesMembers a symbol by its names, which are in a buffer.
+///
+/// # Errors
+/// There is no room for its keys.
+fn take_names(
+    strings: &StringBuffer,
+    name: HeldText,
+    default: Option<HeldText>,
+    symbol: SymbolUse,
+    keys: &mut KeyTable<'_>,
+    row: u32,
+) -> Result<(), KeyFault> {
+    keys.take(symbol_record(strings, name, default, symbol), Some(row))
+}
+
+/// Returns a symbol with its names, which are in a buffer.
+fn symbol_record<'s>(
+    strings: &'s StringBuffer,
+    name: HeldText,
+    default: Option<HeldText>,
+    symbol: SymbolUse,
+) -> Symbol<'s> {
+    Symbol {
+        name: strings.bytes(name),
+        default_name: held_bytes(strings, default),
+        symbol,
+    }
+}
+
+/// Returns the bytes of a text in a buffer, if there is one.
+fn held_bytes(strings: &StringBuffer, text: Option<HeldText>) -> Option<&[u8]> {
+    match text {
+        Some(text) => Some(strings.bytes(text)),
+        None => None,
     }
 }
 

@@ -2,14 +2,14 @@
 ghost use Rattle.std.specs.Prelude.{◌<◌};
 
 use crate::link_faults::{LinkFault, file_refused, full};
-use crate::object::{LinkObject, SymbolRows, read_names, read_rows, symbol_in};
+use crate::object::{ObjectTables, SymbolRows, read_names, read_rows, symbol_in};
 use crate::section_marks::SectionMarks;
 use crate::string_buffer::{HeldText, NO_TEXT, StringBuffer};
 use elf_record::numbers::{SHT_GROUP, STT_SECTION};
 use elf_record::{Cause, word};
 use crate::table::KeyTable;
 use elf_source::{Counted, Source};
-use elf_table::{Names, Table, checked_rows};
+use elf_table::{Names, SectionView, Table, checked_rows};
 
 /// The flag of a group of which one is kept (gABI 4, Section Groups).
 const GRP_COMDAT: u32 = 1;
@@ -23,11 +23,12 @@ const WORD_BYTES: u64 = 4;
 /// What the name of a link-once section begins with.
 const LINK_ONCE: &[u8] = b".gnu.linkonce.";
 
-/// The symbol of a section group: the group's file offset, the symbol's index, the section of its
+/// A section group: its header's file offset, its words, the index of its symbol, the section of its
 /// symbol table, that table, and the names of that.
 #[derive(Clone, Copy)]
-struct GroupSymbol {
+struct SectionGroup {
     at: u64,
+    words: (u64, u64),
     index: u64,
     link: u32,
     table: Table,
@@ -41,59 +42,81 @@ struct GroupSymbol {
 /// The first fault of a group or a name; there is no room for a signature.
 pub(crate) fn drop_groups<S: Source>(
     src: &mut Counted<S>,
-    object: &LinkObject<'_>,
+    view: &SectionView<'_>,
+    tables: ObjectTables,
     strings: &mut StringBuffer,
     marks: &mut SectionMarks,
     keys: &mut KeyTable<'_>,
 ) -> Result<(), LinkFault> {
-    for section in 0..object.view.sections() {
-        if object.view.section(section).sh_type == SHT_GROUP {
-            take_group(src, object, section, strings, marks, keys)?;
+    for section in 0..view.sections() {
+        if view.section(section).sh_type == SHT_GROUP {
+            let used = strings.used();
+            let words = dropped_words(src, view, tables, section, strings, keys)?;
+            drop_sections(words, strings, marks);
+            strings.forget_after(used);
         } else {
-            take_link_once(object, section, strings, marks, keys)?;
+            take_link_once(view, tables, section, strings, marks, keys)?;
         }
     }
     Ok(())
 }
 
-/// Marks the sections of a group, if one of its signature is known.
+/// Returns the words of a group, if one of its signature is known, and makes that known.
 ///
 /// # Errors
 /// Those of its words and its symbol; there is no room for its signature.
-fn take_group<S: Source>(
+fn dropped_words<S: Source>(
     src: &mut Counted<S>,
-    object: &LinkObject<'_>,
+    view: &SectionView<'_>,
+    tables: ObjectTables,
     section: u16,
     strings: &mut StringBuffer,
-    marks: &mut SectionMarks,
     keys: &mut KeyTable<'_>,
-) -> Result<(), LinkFault>
-    requires { section < object.now.view.store.now.loaded }
+) -> Result<Option<HeldText>, LinkFault>
+    requires { section < view.now.store.now.loaded }
 {
-    let header = object.view.section(section);
-    let at = object.view.place(section);
-    let size = object.view.loaded.size();
+    let group = group_at(view, section)?;
+    let at = group.at;
+    let (place, size) = group.words;
+    let words = strings.read(src, place, size, at)?;
+    if !is_comdat(strings.bytes(words)) {
+        return Ok(None);
+    }
+    let name = signature(src, view, tables, group, strings)?;
+    match keys.drop_group(strings.bytes(name), false) {
+        Ok(true) => Ok(Some(words)),
+        Ok(false) => Ok(None),
+        Err(fault) => Err(full(at, fault)),
+    }
+}
+
+/// Returns the group of a section.
+///
+/// # Errors
+/// At the section's header: `SizeNotWhole` and `TableOutside` of its words, `BadLink` if it links to
+/// no symbol table; those of that table; `SymbolIndex` if that has no symbol of its index.
+fn group_at(view: &SectionView<'_>, section: u16) -> Result<SectionGroup, LinkFault>
+    requires { section < view.now.store.now.loaded }
+{
+    let header = view.section(section);
+    let at = view.place(section);
+    let size = view.loaded.size();
     let words = checked_rows(header.sh_offset, header.sh_size, WORD_BYTES, size, at)?;
-    let Some((table, names)) = object.view.linked(section)? else {
+    let Some((table, names)) = view.linked(section)? else {
         return file_refused(at, Cause::BadLink);
     };
-    let symbol = GroupSymbol {
+    let index = u64::from(header.sh_info);
+    if index >= table.len() {
+        return file_refused(at, Cause::SymbolIndex);
+    }
+    Ok(SectionGroup {
         at,
-        index: u64::from(header.sh_info),
+        words: (words.at(), header.sh_size),
+        index,
         link: header.sh_link,
         table,
         names,
-    };
-    if symbol.index >= table.len() {
-        return file_refused(at, Cause::SymbolIndex);
-    }
-    let used = strings.used();
-    let words = strings.read(src, words.at(), header.sh_size, at)?;
-    if is_comdat(strings.bytes(words)) && is_known(src, object, symbol, strings, keys)? {
-        drop_sections(words, strings, marks);
-    }
-    strings.forget_after(used);
-    Ok(())
+    })
 }
 
 /// Returns whether the first word of a group says that one of its signature is kept.
@@ -104,30 +127,15 @@ fn is_comdat(words: &[u8]) -> bool {
     }
 }
 
-/// Marks the sections in the words of a group, after the first.
-fn drop_sections(words: HeldText, strings: &StringBuffer, marks: &mut SectionMarks) {
+/// Marks the sections in the words of a group that is dropped, after the first.
+fn drop_sections(words: Option<HeldText>, strings: &StringBuffer, marks: &mut SectionMarks) {
+    let Some(words) = words else {
+        return;
+    };
     for section in strings.bytes(words).chunks(4).skip(1) {
         if let Some(number) = section.first_chunk() {
             marks.drop_section(word(number));
         }
-    }
-}
-
-/// Returns whether the signature of a group is known, and makes it known.
-///
-/// # Errors
-/// Those of the signature; there is no room for it.
-fn is_known<S: Source>(
-    src: &mut Counted<S>,
-    object: &LinkObject<'_>,
-    symbol: GroupSymbol,
-    strings: &mut StringBuffer,
-    keys: &mut KeyTable<'_>,
-) -> Result<bool, LinkFault> {
-    let name = signature(src, object, symbol, strings)?;
-    match keys.drop_group(strings.bytes(name), false) {
-        Ok(is_known) => Ok(is_known),
-        Err(fault) => Err(full(symbol.at, fault)),
     }
 }
 
@@ -138,18 +146,21 @@ fn is_known<S: Source>(
 /// Those of the name, at the symbol or at the section's header; there is no room for the tables.
 fn signature<S: Source>(
     src: &mut Counted<S>,
-    object: &LinkObject<'_>,
-    symbol: GroupSymbol,
+    view: &SectionView<'_>,
+    tables: ObjectTables,
+    group: SectionGroup,
     strings: &mut StringBuffer,
 ) -> Result<HeldText, LinkFault> {
-    let symbols = linked_symbols(src, object, symbol, strings)?;
-    let place = symbols.place(symbol.index);
-    let Some(fields) = symbol_in(strings.bytes(symbols.rows), symbol.index) else {
-        return file_refused(symbol.at, Cause::SymbolIndex);
+    let (at, index) = (group.at, group.index);
+    let symbols = linked_symbols(src, tables, group, strings)?;
+    let place = symbols.place(index);
+    let (rows, names) = (symbols.rows, symbols.names);
+    let Some(fields) = symbol_in(strings.bytes(rows), index) else {
+        return file_refused(at, Cause::SymbolIndex);
     };
-    let name = strings.name(symbols.names, u64::from(fields.st_name), place)?;
-    if name.size == 0 && fields.kind() == STT_SECTION && fields.st_shndx < object.view.sections() {
-        return section_name(object, fields.st_shndx, strings);
+    let name = strings.name(names, u64::from(fields.st_name), place)?;
+    if name.size == 0 && fields.kind() == STT_SECTION && fields.st_shndx < view.sections() {
+        return section_name(view, tables, fields.st_shndx, strings);
     }
     Ok(name)
 }
@@ -160,21 +171,22 @@ fn signature<S: Source>(
 /// Those of reading it; there is no room for it.
 fn linked_symbols<S: Source>(
     src: &mut Counted<S>,
-    object: &LinkObject<'_>,
-    symbol: GroupSymbol,
+    tables: ObjectTables,
+    group: SectionGroup,
     strings: &mut StringBuffer,
 ) -> Result<SymbolRows, LinkFault> {
-    if let Some(symbols) = object.symbols {
-        if u32::from(symbols.section) == symbol.link {
+    if let Some(symbols) = tables.symbols {
+        if u32::from(symbols.section) == group.link {
             return Ok(symbols);
         }
     }
-    let rows = read_rows(src, symbol.table, strings)?;
-    let names = read_names(src, symbol.names, symbol.at, strings)?;
+    let (at, table, names) = (group.at, group.table, group.names);
+    let rows = read_rows(src, table, strings)?;
+    let names = read_names(src, names, at, strings)?;
     Ok(SymbolRows {
         section: 0,
-        at: symbol.table.at(),
-        count: symbol.table.len(),
+        at: table.at(),
+        count: table.len(),
         first: 0,
         rows,
         names,
@@ -186,17 +198,18 @@ fn linked_symbols<S: Source>(
 /// # Errors
 /// Those of the name, at the section's header.
 fn section_name(
-    object: &LinkObject<'_>,
+    view: &SectionView<'_>,
+    tables: ObjectTables,
     section: u16,
     strings: &StringBuffer,
 ) -> Result<HeldText, LinkFault>
-    requires { section < object.now.view.store.now.loaded }
+    requires { section < view.now.store.now.loaded }
 {
-    let Some(names) = object.sections else {
+    let Some(names) = tables.sections else {
         return Ok(NO_TEXT);
     };
-    let index = u64::from(object.view.section(section).sh_name);
-    strings.name(names, index, object.view.place(section))
+    let index = u64::from(view.section(section).sh_name);
+    strings.name(names, index, view.place(section))
 }
 
 /// Drops a link-once section in no group whose name is known, or makes it known.
@@ -204,17 +217,18 @@ fn section_name(
 /// # Errors
 /// Those of its name; there is no room for it.
 fn take_link_once(
-    object: &LinkObject<'_>,
+    view: &SectionView<'_>,
+    tables: ObjectTables,
     section: u16,
     strings: &StringBuffer,
     marks: &mut SectionMarks,
     keys: &mut KeyTable<'_>,
 ) -> Result<(), LinkFault>
-    requires { section < object.now.view.store.now.loaded }
+    requires { section < view.now.store.now.loaded }
 {
-    let name = section_name(object, section, strings)?;
+    let name = section_name(view, tables, section, strings)?;
     let text = strings.bytes(name);
-    if object.view.section(section).sh_flags & SHF_GROUP != 0 || !text.starts_with(LINK_ONCE) {
+    if view.section(section).sh_flags & SHF_GROUP != 0 || !text.starts_with(LINK_ONCE) {
         return Ok(());
     }
     match keys.drop_group(text, true) {
@@ -223,7 +237,7 @@ fn take_link_once(
             Ok(())
         }
         Ok(false) => Ok(()),
-        Err(fault) => Err(full(object.view.place(section), fault)),
+        Err(fault) => Err(full(view.place(section), fault)),
     }
 }
 
@@ -233,17 +247,18 @@ fn take_link_once(
 /// # Errors
 /// Those of a name, at the section's header; there is no room for it.
 pub(crate) fn note_sections(
-    object: &LinkObject<'_>,
+    view: &SectionView<'_>,
+    tables: ObjectTables,
     strings: &StringBuffer,
     marks: &SectionMarks,
     keys: &mut KeyTable<'_>,
 ) -> Result<(), LinkFault> {
-    for section in 0..object.view.sections() {
-        let name = section_name(object, section, strings)?;
+    for section in 0..view.sections() {
+        let name = section_name(view, tables, section, strings)?;
         let text = strings.bytes(name);
         if is_identifier(text) && !marks.is_dropped(u32::from(section)) {
             if let Err(fault) = keys.note_section(text) {
-                return Err(full(object.view.place(section), fault));
+                return Err(full(view.place(section), fault));
             }
         }
     }

@@ -27,19 +27,19 @@ RefersToSymbol file header at symbol (Ok (Some found)) =
 RefersToSymbol file header at symbol (Err fault) = RefusedBy (symbol_checks_of file header at symbol) fault
 
 -- symbols with their names, in a file
-abbrev pub known_symbols : List ℕ → Option (TableRange × StringTableRange) → Option LocatedSymbols
-known_symbols file None = None
-known_symbols file (Some symbols) =
+abbrev pub symbols_linked : List ℕ → Option (TableRange × StringTableRange) → Option LocatedSymbols
+symbols_linked file None = None
+symbols_linked file (Some symbols) =
     Some (record { place = symbols.0.at; count = symbols.0.count; strings = strings_in file symbols.1 })
 
 -- THE SYMBOL of an index to which an entry at an offset refers, among some symbols: none for symbol
 -- 0, otherwise that of the index, or the refusal if there is none
-abbrev pub IsAmong : Option (TableRange × StringTableRange) → (at symbol : ℕ) → Result (Option LinkedSymbol) Fault → Type 0
-IsAmong linked at symbol (Ok None) = symbol ≡ 0
-IsAmong linked at symbol (Ok (Some found)) =
+abbrev pub IsSymbolAmong : Option (TableRange × StringTableRange) → (at symbol : ℕ) → Result (Option LinkedSymbol) Fault → Type 0
+IsSymbolAmong linked at symbol (Ok None) = symbol ≡ 0
+IsSymbolAmong linked at symbol (Ok (Some found)) =
     (symbol ≢ 0) × (linked ≡ Some (found.table, found.names)) × (found.index ≡ symbol) × (symbol < found.table.count)
-IsAmong None at symbol (Err fault) = (symbol ≢ 0) × (fault ≡ Refused (record { at = at; cause = BadLink }))
-IsAmong (Some symbols) at symbol (Err fault) =
+IsSymbolAmong None at symbol (Err fault) = (symbol ≢ 0) × (fault ≡ Refused (record { at = at; cause = BadLink }))
+IsSymbolAmong (Some symbols) at symbol (Err fault) =
     (symbol ≢ 0) × (symbols.0.count ≤ symbol) × (fault ≡ Refused (record { at = at; cause = SymbolIndex }))
 
 -- the symbol was read

@@ -3,7 +3,7 @@ pub use Rattle.elf_table.specs.Cursors.{Advances, CursorState, EndsRows, FailsRo
 pub use Rattle.elf_table.specs.Faults.{FillsOnce, HeaderRead, IsAt, IsOfCheck, IsOfRead, IsReadFault, IsReadRefusal, IsUnlimitedReadFault}
 pub use Rattle.elf_table.specs.HashSections.{AreHashed, ChecksThenValue, front_checks}
 pub use Rattle.elf_table.specs.Ledger.{CallDid, CallReads, IsRead, fault_of_result}
-pub use Rattle.elf_table.specs.LinkedSymbols.{IsAmong, LinkedSymbolInBounds, RefersToSymbol, SymbolRead, known_symbols}
+pub use Rattle.elf_table.specs.LinkedSymbols.{IsSymbolAmong, LinkedSymbolInBounds, RefersToSymbol, SymbolRead, symbols_linked}
 pub use Rattle.elf_table.specs.Load.{HoldsProgramHeaders, HoldsSectionHeaders, IsOpen, IsOpened, LoadedAs, LoadedFile, PassesLoadChecks, SegmentsInBounds, early_of, file_header_cost, load_cost, section_place}
 pub use Rattle.elf_table.specs.NamesRead.{ComparesName, NameRead, Refuses, Searched, shown_by}
 pub use Rattle.elf_table.specs.Relocations.{AreEntries, AreRelocations, AreSymbols, Links, RefersTo, RefusedBy, Relocates, RelocatesWith}

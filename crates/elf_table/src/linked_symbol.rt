@@ -3,7 +3,7 @@ ghost use Rattle.std.specs.Prelude.{◌≡◌, ◌<◌, ℕ, List, None, Ok, IfE
 ghost use Rattle.elf_table.specs.Cursors.{row_at};
 ghost use Rattle.elf_table.specs.Faults.{IsOfCheck};
 ghost use Rattle.elf_table.specs.Ledger.{CallDid, fault_of_result};
-ghost use Rattle.elf_table.specs.LinkedSymbols.{IsAmong, LinkedSymbolInBounds, RefersToSymbol, SymbolRead};
+ghost use Rattle.elf_table.specs.LinkedSymbols.{IsSymbolAmong, LinkedSymbolInBounds, RefersToSymbol, SymbolRead};
 ghost use Rattle.elf_table.specs.Relocations.{RefersTo};
 ghost use Rattle.elf_table.specs.Tables.{SymbolTableInBounds};
 
@@ -56,7 +56,7 @@ impl LinkedSymbol {
             IfOk result (λ found. IfSome found (LinkedSymbolInBounds size)) }
         ensures held { (file : List ℕ) (header : ℕ) → RefersTo file header linked →
             RefersToSymbol file header at symbol result }
-        ensures among { IsAmong linked at symbol result }
+        ensures among { IsSymbolAmong linked at symbol result }
         ensures refusal { IfErr result IsOfCheck }
     {
         if symbol == 0 {

@@ -1,4 +1,5 @@
 //! Segments as a loader leaves them, and what their images lack.
+ghost use Rattle.std.specs.Prelude.{◌≤◌, length};
 ghost use Rattle.elf_hash.specs.Loading.{FitsSource};
 
 use crate::layouts::{read_list, told};
@@ -6,7 +7,7 @@ use elf_cli::{
     CANNOT_OPEN, CommandArgs, ExitLine, OUT_OF_MEMORY, allocate, allocate_pages, end_answer,
     open_by_pages,
 };
-use elf_format::show_lacking;
+use elf_format::show_lacking_entry;
 use elf_image::{
     ImageItems, ImageRequest, ItemList, ItemListFault, MissingEntries, load_image, write_image,
 };
@@ -55,7 +56,7 @@ pub fn write_images<R: Files + Print + AllocGlobal>(
 where
     R::File: FileExt,
 {
-    let wanted = wanted_of(asked)?;
+    let wanted = parse_wanted(asked)?;
     let mut bytes = Vec::new(rt.alloc());
     let end = match asked.layout {
         None => TextEnd::Whole,
@@ -78,7 +79,7 @@ where
 }
 
 /// Returns what is written.
-fn wanted_of(asked: &CommandArgs<'_>) -> Result<Wanted, ExitLine> {
+fn parse_wanted(asked: &CommandArgs<'_>) -> Result<Wanted, ExitLine> {
     if asked.missing {
         return Ok(Wanted::Missing);
     }
@@ -176,7 +177,9 @@ fn write_job<S: Source + Drop, W: Write + Drop>(
     mut store: HeaderStore<'_>,
     window: &mut [u8],
     output: BufWriter<W>,
-) -> ExitLine {
+) -> ExitLine
+    requires { 16 ≤ length window.old }
+{
     let mut src = Counted::new(source);
     src.limit(job.budget);
     let mut out = Out::new(WriteSink::new(output));
@@ -198,7 +201,9 @@ fn answer_job<S: Source, W: Sink>(
     store: &mut HeaderStore<'_>,
     window: &mut [u8],
     out: &mut Out<W>,
-) -> Result<(), RunFault> {
+) -> Result<(), RunFault>
+    requires { 16 ≤ length window.old }
+{
     match job.wanted {
         Wanted::Segment(segment) => {
             let request = ImageRequest {
@@ -289,7 +294,7 @@ fn write_lines<S: Source, W: Sink>(
 {
     let mut missing = MissingEntries::open(src, store, loaded, job.items)?;
     'entries: while let Some(entry) = missing.next(src)? {
-        show_lacking(
+        show_lacking_entry(
             entry.at,
             entry.place,
             entry.kind,

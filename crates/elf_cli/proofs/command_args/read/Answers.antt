@@ -35,4 +35,9 @@ returns-clause-options c = record {
   symbols = c.is_set-3.ensures;
   unused = c.is_set-4.ensures;
   problems = c.is_set-5.ensures;
+  image = c.text-12.ensures;
+  image_index = c.place-2.ensures;
+  max_write = c.number-3.ensures;
+  missing = c.is_set-6.ensures;
+  leave = c.is_set-7.ensures;
 }

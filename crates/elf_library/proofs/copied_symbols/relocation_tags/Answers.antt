@@ -5,7 +5,7 @@ use Rattle.elf_record.specs.Dyn.{IsDyn}
 use Rattle.elf_table.proofs.LedgerLaws.{CallDid-of}
 use Rattle.elf_table.specs.Cursors.{next_row}
 use Rattle.elf_note.specs.DynCursors.{entries_left, first_value}
-use Rattle.elf_library.specs.Copied.{DT_RELA, DT_RELASZ}
+use Rattle.elf_model.specs.Numbers.{DT_RELA, DT_RELASZ}
 use Rattle.elf_note.proofs.EntriesLeft.{given, ended, value-step, value-end}
 use Rattle.elf_note.proofs.EntriesLoop.{goes-fewer, goes-next, goes-place, goes-reads, goes-row, goes-start}
 use Rattle.elf_library.proofs.copied_symbols.relocation_tags.Goals as goal

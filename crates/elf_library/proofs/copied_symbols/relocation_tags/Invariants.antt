@@ -3,7 +3,7 @@ use Rattle.elf_model.specs.Prelude.{dynamic_value, listed_value}
 use Rattle.elf_table.specs.Cursors.{next_row}
 use Rattle.elf_note.specs.DynCursors.{entries_left, first_value}
 use Rattle.elf_note.proofs.EntriesLoop.{GoesOver}
-use Rattle.elf_library.specs.Copied.{DT_RELA, DT_RELASZ}
+use Rattle.elf_model.specs.Numbers.{DT_RELA, DT_RELASZ}
 use Rattle.elf_library.proofs.copied_symbols.relocation_tags.Given as goal
 
 -- some entries are passed, and what is found or left is what the table has

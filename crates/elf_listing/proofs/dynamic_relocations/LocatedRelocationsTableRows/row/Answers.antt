@@ -3,7 +3,7 @@ use Rattle.std.proofs.Common.{◌≡◌, ℕ, ◌+◌, ◌*◌, ◌/◌, ◌^◌
 use Rattle.std.proofs.lemmas.Result.{err_from_is_err_and}
 use Rattle.elf_options.specs.Permitted.{style_of}
 use Rattle.elf_model.specs.Prelude.{place_of_relocation, relocation_choice}
-use Rattle.elf_table.specs.Prelude.{known_symbols}
+use Rattle.elf_table.specs.Prelude.{symbols_linked}
 use Rattle.elf_listing.proofs.LocatedShown.{located_is}
 use Rattle.elf_listing.proofs.RowLaws.{WroteSome-as, WroteUntilStop-chosen, chosen-hidden, chosen-shown}
 use Rattle.elf_listing.proofs.SelectionLaws.{placed-chosen-as}
@@ -19,7 +19,7 @@ returns-in_err-read-clause-lists g c =
     let style = style_of c.args.listing.now.style in
     let decoded = c.decode_entry-addend.ensures file row.bytes in
     let symbol = c.symbol.ensures ∙ ap (λ n. n / 2 ^ 32) decoded.0.r_info in
-    rw (located_is rows.has_addends file _ style rows.segment (known_symbols file rows.linked) at c.args.row.now.at _ c.args.row.now.index row.here refl symbol, c.in_err-read.ensures.fetches.1)
+    rw (located_is rows.has_addends file _ style rows.segment (symbols_linked file rows.linked) at c.args.row.now.at _ c.args.row.now.index row.here refl symbol, c.in_err-read.ensures.fetches.1)
     (WroteUntilStop-chosen _ (relocation_choice rows.has_addends file style c.args.row.now.at) _ _ _ [] _ (c.in_err-read.ensures.among file held))))
 
 pub returns-then-not-is_row_shown-clause-lists : goal.returns-then-not-is_row_shown-clause-lists
@@ -34,7 +34,7 @@ returns-then-not-is_row_shown-clause-lists g c =
     let hidden = placed-chosen-as c.args.listing.now.style _ _ (place_of_relocation rows.has_addends file c.args.row.now.at) _ _ _ _ first.0.same_style placed c.is_row_shown.ensures c.if-not-is_row_shown.true in
     rw first.1
     (WroteSome-as {X = Unit {0}} _ _ (Ok tt)
-    (located_is rows.has_addends file _ style rows.segment (known_symbols file rows.linked) at c.args.row.now.at _ c.args.row.now.index row.here refl symbol
+    (located_is rows.has_addends file _ style rows.segment (symbols_linked file rows.linked) at c.args.row.now.at _ c.args.row.now.index row.here refl symbol
     ∙ chosen-hidden (relocation_choice rows.has_addends file style c.args.row.now.at) _ _ c.in_ok-read.read.end _ _ (c.in_ok-read.ensures.among file held) hidden)
     (Whole-none _)))
 
@@ -52,6 +52,6 @@ returns-clause-lists g c =
     let read = c.in_ok-read.ensures.among file held in
     rw (← first.1)
     (WroteSome-as _ _ _
-    (located_is rows.has_addends file _ style rows.segment (known_symbols file rows.linked) at c.args.row.now.at _ c.args.row.now.index row.here front symbol
+    (located_is rows.has_addends file _ style rows.segment (symbols_linked file rows.linked) at c.args.row.now.at _ c.args.row.now.index row.here front symbol
     ∙ chosen-shown (relocation_choice rows.has_addends file style c.args.row.now.at) _ _ c.in_ok-read.read.end _ _ read shown)
     (c.named_line.ensures.shows _ _ read)))

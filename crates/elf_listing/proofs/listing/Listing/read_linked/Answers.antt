@@ -10,7 +10,7 @@ use Rattle.elf_note.proofs.SpendsLaws.{SpendsAtMost-none, SpendsAtMost-then}
 use Rattle.elf_table.proofs.OpenLaws.{still_open}
 use Rattle.elf_table.specs.declared.names.NameEnd.{NameEnd}
 use Rattle.elf_listing.proofs.ViewedLaws.{still_viewed}
-use Rattle.elf_table.specs.Prelude.{known_symbols}
+use Rattle.elf_table.specs.Prelude.{symbols_linked}
 use Rattle.elf_listing.proofs.LocatedShown.{among_zero, read_among, refuses_among}
 use Rattle.elf_listing.proofs.SymbolNamed.{named_zero, read_named, refuses_named, says_after}
 use Rattle.elf_listing.proofs.listing.Listing.read_linked.Goals as goal
@@ -34,7 +34,7 @@ returns-in_default g c = record {
       rw (named_zero file c.args.self.now.style.cap.bytes header c.args.at c.args.symbol zero) (ap (λ name. Ok (Whole name)) (sym c.clear.ensures));
   among = λ file held.
       let zero = rw (none-of _ c.in_default.not-Some) at c.in_ok-found.ensures.among in
-      rw (among_zero file c.args.self.now.style.cap.bytes c.args.at c.args.symbol (known_symbols file c.args.linked) zero) (ap (λ name. Ok (Whole name)) (sym c.clear.ensures));
+      rw (among_zero file c.args.self.now.style.cap.bytes c.args.at c.args.symbol (symbols_linked file c.args.linked) zero) (ap (λ name. Ok (Whole name)) (sym c.clear.ensures));
   defined = λ file header held linked some.
       let zero = eq-eqb c.args.symbol 0 (rw (none-of _ c.in_default.not-Some) at (c.in_ok-found.ensures.held file header linked)) in absurd cc;
 }

@@ -1,7 +1,7 @@
 -- The parts one after the other.
 use Rattle.elf_options.specs.Prelude.{style_of}
 use Rattle.elf_options.specs.declared.caps.ListingStyle.{ListingStyle}
-use Rattle.std.proofs.Common.{ℕ, List}
+use Rattle.std.proofs.Common.{ℕ, ◌+◌, List}
 use Rattle.std.proofs.lemmas.Result.{err_from_is_err_and}
 use Rattle.elf_model.specs.Prelude.{ListingItem, symbol_versions}
 use Rattle.elf_table.specs.declared.file.SectionView.{SectionView}
