@@ -2,5 +2,4 @@ pub mod Headers
 pub mod Items
 pub mod Values
 pub mod Within
-pub mod Images
 pub mod Missing

@@ -1,8 +1,7 @@
 //! The call that writes the image of a segment.
-ghost use Rattle.std.specs.Prelude.{◌≡◌, ◌+◌, ◌<◌, ◌≤◌, ◌^◌, ℕ, length};
+ghost use Rattle.std.specs.Prelude.{◌≡◌, ◌+◌, ◌<◌, ◌≤◌, ◌^◌, length};
 ghost use Rattle.elf_source.specs.Prelude.{KeepsSource};
 ghost use Rattle.elf_hash.specs.Loading.{FitsSource};
-ghost use Rattle.elf_image.specs.Images.{TargetWithin};
 ghost use Rattle.elf_image.specs.Within.{ImageWithin};
 
 use crate::changes::{ImageFile, told_relocations};
@@ -128,8 +127,10 @@ fn write_loaded<S: Source, W: Sink>(
 /// Returns the segment of a program header, written in windows of a size.
 fn target_of(index: u16, header: &Phdr, window: u64, hides: bool) -> ImageTarget
     requires { 16 ≤ window }
-    ensures { (size : ℕ) → header.now.p_offset + header.now.p_filesz ≤ size →
-        TargetWithin size window result }
+    ensures some { 16 ≤ result.window }
+    ensures window { result.window ≡ window }
+    ensures bytes { result.bytes.at + result.bytes.size
+        ≡ header.now.p_offset + header.now.p_filesz }
 {
     ImageTarget {
         index,
@@ -216,7 +217,9 @@ fn write_segment_windows<S: Source, W: Sink>(
     out: &mut Out<W>,
 ) -> Result<(), RunFault>
     requires image { ImageWithin src.old.seen.size image.now }
-    requires target { TargetWithin src.old.seen.size (length room.old) target.now }
+    requires within { target.now.bytes.at + target.now.bytes.size ≤ src.old.seen.size }
+    requires some { 16 ≤ target.now.window }
+    requires room { target.now.window ≡ length room.old }
 {
     let size = target.size;
     let mut low = 0;
