@@ -61,7 +61,7 @@ pub ordered : (entries : List KeyEntry) (order : List ℕ) (i : ℕ) (after : Ke
     → length order ≡ count_by (λ (e : KeyEntry). e.is_met) entries → length (order_after order i (get_or entries i new_key).is_met) ≡ count_by (λ (e : KeyEntry). e.is_met) (set entries i after)
 ordered entries order i after there now symbol_counts = ordered_by entries order i after (get_or entries i new_key).is_met there refl now symbol_counts
 
--- and as many have been asked for as are symbol_counts
+-- and as many have been asked for as are counted
 asked_by : (entries : List KeyEntry) (asked i : ℕ) (after : KeyEntry) (before now : Bool) → i < length entries → (get_or entries i new_key).is_asked ≡ before → after.is_asked ≡ now
     → (before ≡ true → now ≡ true) → asked ≡ count_by (λ (e : KeyEntry). e.is_asked) entries
     → (if now && not before then asked + 1 else asked) ≡ count_by (λ (e : KeyEntry). e.is_asked) (set entries i after)

@@ -26,7 +26,7 @@ count_by_more p [] i x d there before after = absurd (omega arith)
 count_by_more p (y ∷ xs) zero x d there before after = grind (arith, common_steps, before, after)
 count_by_more p (y ∷ xs) (suc i) x d there before after = grind (arith, common_steps, count_by_more p xs i x d (omega (arith, there)) before after)
 
--- an element that does not pass is not symbol_counts, and one that does not count is not among all
+-- an element that does not pass is not counted, and one that does not count is not among all
 pub count_by_push : {X : Type 0} (p : X → Bool) (xs : List X) (x : X) → p x ≡ false → count_by p (xs ++ x ∷ []) ≡ count_by p xs
 count_by_push p [] x fails = grind (arith, common_steps, fails)
 count_by_push p (y ∷ xs) x fails = grind (arith, common_steps, count_by_push p xs x fails)

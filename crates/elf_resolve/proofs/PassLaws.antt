@@ -93,7 +93,7 @@ module _ (archive : LinkArchive) where
   pass_keeps p [] = refl
   pass_keeps p (e ∷ es) = pass_keeps (entry_visited archive p e) es ∙ visit_keeps p e
 
-  -- rows are only added, and if none is, nothing key_changed
+  -- rows are only added, and if none is, nothing changed
   grows_by : (p : ArchivePass) (e : IndexEntry) (is : Bool) → takes_member archive p e ≡ is → length p.rows ≤ length (entry_visited archive p e).rows
   grows_by p e true is = rw (visited p e is) (omega (arith, rows_after p e))
   grows_by p e false is = rw (not_visited p e is) (omega arith)

@@ -15,7 +15,7 @@ pub(crate) enum FoundState {
     Common,
     /// A shared library defines it.
     Shared,
-    /// ArchiveObjects define it more than once.
+    /// Objects define it more than once.
     Multiple,
     /// It is not defined, and an archive or a library that comes too early has it.
     Order,

@@ -59,7 +59,7 @@ impl<S: Source> ArchiveMembers<'_, S> {
         Ok(!NO_FILES.iter().any(|name| header.starts_with(name)))
     }
 
-    /// TakesMembers a member.
+    /// Takes a member.
     ///
     /// # Errors
     /// Those of its header, its name and the object.

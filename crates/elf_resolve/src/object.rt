@@ -52,7 +52,7 @@ pub(crate) struct ObjectTables {
     pub sections: Option<HeldText>,
 }
 
-/// TakesMembers the section groups and the symbols of an object, which has the row `row`.
+/// Takes the section groups and the symbols of an object, which has the row `row`.
 ///
 /// # Errors
 /// The first fault of its headers, its tables, its groups, the names of its sections or its
@@ -72,7 +72,7 @@ pub(crate) fn take_object<S: Source>(
     take_into(src, &mut headers.store(), strings, marks, keys, row)
 }
 
-/// TakesMembers an object, with its section headers in a store.
+/// Takes an object, with its section headers in a store.
 ///
 /// # Errors
 /// Those of [`take_object`].

@@ -24,7 +24,7 @@ const SHN_X86_64_LCOMMON: u16 = 0xff02;
 /// The symbol of an object with intermediate code alone.
 const LTO_MARK: &[u8] = b"__gnu_lto_slim";
 
-/// TakesMembers the symbols of an object that are not local, in order.
+/// Takes the symbols of an object that are not local, in order.
 ///
 /// # Errors
 /// The first fault of a symbol or its name; there is no room for a key.
@@ -58,7 +58,7 @@ pub(crate) fn global_in(rows: &[u8], index: u64) -> Option<Sym> {
     }
 }
 
-/// TakesMembers a symbol at a file offset, if it has a name.
+/// Takes a symbol at a file offset, if it has a name.
 ///
 /// # Errors
 /// `Lto` if it is the mark of an object with intermediate code alone; there is no room for its keys.
@@ -89,7 +89,7 @@ fn is_lto_mark(name: &[u8]) -> bool {
     name == LTO_MARK
 }
 
-/// TakesMembers a symbol by its names, which are in a buffer.
+/// Takes a symbol by its names, which are in a buffer.
 ///
 /// # Errors
 /// There is no room for its keys.

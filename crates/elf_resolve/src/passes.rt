@@ -32,7 +32,7 @@ pub trait ArchiveObjects {
 
     ghost known: { Self → Type 0 };
 
-    /// TakesMembers the groups and the symbols of a member, which has the row `row`.
+    /// Takes the groups and the symbols of a member, which has the row `row`.
     ///
     /// # Errors
     /// Returns a `LinkStop` if the member can't be read, or there is no room for a key.
@@ -123,7 +123,7 @@ fn member_row<'a>(archive: ArchiveInput, keys: &KeyTable<'a>, entry: IndexEntry)
     }
 }
 
-/// TakesMembers the member of an entry, if the entry's key asks for it.
+/// Takes the member of an entry, if the entry's key asks for it.
 ///
 /// # Errors
 /// Returns a `LinkStop` if the member can't be taken.

@@ -115,7 +115,7 @@ impl<'a> Resolver<'a> {
         }
     }
 
-    /// TakesMembers all inputs in their order. The first refusal of a file ends that, and is kept.
+    /// Takes all inputs in their order. The first refusal of a file ends that, and is kept.
     ///
     /// # Errors
     /// A file cannot be opened or read.
@@ -206,7 +206,7 @@ impl<'a> Resolver<'a> {
         group.first
     }
 
-    /// TakesMembers an input, or what is left of it in a further round.
+    /// Takes an input, or what is left of it in a further round.
     ///
     /// # Errors
     /// The first fault of the input.
@@ -236,7 +236,7 @@ impl<'a> Resolver<'a> {
         }
     }
 
-    /// TakesMembers an input for the first time.
+    /// Takes an input for the first time.
     ///
     /// # Errors
     /// The first fault of the input.
@@ -290,7 +290,7 @@ impl<'a> Resolver<'a> {
         self.left = src.left();
     }
 
-    /// TakesMembers the file of an input.
+    /// Takes the file of an input.
     ///
     /// # Errors
     /// The first fault of the file.
@@ -382,7 +382,7 @@ impl<'a> Resolver<'a> {
         taken
     }
 
-    /// TakesMembers the members of an archive that its index asks for.
+    /// Takes the members of an archive that its index asks for.
     ///
     /// # Errors
     /// The first fault of a member that is taken.
@@ -432,7 +432,7 @@ impl<'a> Resolver<'a> {
         Err(fault)
     }
 
-    /// TakesMembers all members of an archive that are files, in order.
+    /// Takes all members of an archive that are files, in order.
     ///
     /// # Errors
     /// The first fault of a member.
@@ -448,7 +448,7 @@ impl<'a> Resolver<'a> {
         Ok(())
     }
 
-    /// TakesMembers a member of an archive, if it is a file.
+    /// Takes a member of an archive, if it is a file.
     ///
     /// # Errors
     /// The first fault of the member.
@@ -500,7 +500,7 @@ struct SearchEnd {
     asked: Option<u32>,
 }
 
-/// TakesMembers the members of an archive that its index asks for.
+/// Takes the members of an archive that its index asks for.
 fn search_members<S: Source>(
     link: &mut Link<'_>,
     room: &mut LinkRoom,
@@ -546,7 +546,7 @@ fn range_of<T>(elements: &[T], range: (usize, usize)) -> &[T] {
     }
 }
 
-/// Returns the elements from an index to another, to be key_changed; none if there are not so many.
+/// Returns the elements from an index to another, to be changed; none if there are not so many.
 fn range_of_mut(elements: &mut [bool], range: (usize, usize)) -> &mut [bool] {
     match elements.split_at_mut_checked(range.1) {
         Some((front, _)) => match front.split_at_mut_checked(range.0) {

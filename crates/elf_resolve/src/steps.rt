@@ -118,7 +118,7 @@ fn shared_change(state: KeyState, symbol: SharedDefinition) -> StateChange
 }
 
 /// Returns whether a definition ends at a key in a state: then the key without the version is not
-/// key_changed either.
+/// changed either.
 pub fn ends_at(state: KeyState, role: SymbolRole) -> bool
     ensures { result ≡ ends_of state role }
 {

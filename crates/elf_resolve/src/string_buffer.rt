@@ -73,7 +73,7 @@ impl StringBuffer {
         part_of(&self.bytes, text.start, text.size)
     }
 
-    /// Returns the name at an index of a table (gABI 4, String KeyList). An empty table has the empty
+    /// Returns the name at an index of a table (gABI 4, String Table). An empty table has the empty
     /// name at index 0.
     ///
     /// # Errors

@@ -47,7 +47,7 @@ impl<'a> KeyTable<'a> {
         Ok(())
     }
 
-    /// TakesMembers a symbol of a row.
+    /// Takes a symbol of a row.
     ///
     /// # Errors
     /// Returns a `KeyFault` if there is no room.
@@ -66,7 +66,7 @@ impl<'a> KeyTable<'a> {
         Ok(())
     }
 
-    /// TakesMembers the symbols of a file in order.
+    /// Takes the symbols of a file in order.
     ///
     /// # Errors
     /// Returns a `KeyFault` if there is no room.

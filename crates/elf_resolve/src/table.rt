@@ -271,7 +271,7 @@ impl<'a> KeyTable<'a> {
         Ok(is_kept(is_link_once, entry))
     }
 
-    /// Sets what is known of a key, except what is symbol_counts.
+    /// Sets what is known of a key, except what is counted.
     fn set_entry(&mut self, index: u32, entry: KeyEntry)
         requires within { index < length self.old.keys.names }
         requires same_met { entry.is_met ≡ (entry_named_as self.old.keys index).is_met }
