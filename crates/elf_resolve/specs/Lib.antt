@@ -1,6 +1,7 @@
 pub mod KeyTables
 pub mod RowTables
 pub mod Symbols
+pub mod SymbolUses
 pub mod Passing
 pub mod KeyStates
 pub mod KeyOrders

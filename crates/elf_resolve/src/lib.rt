@@ -29,6 +29,7 @@ mod section_groups;
 mod section_marks;
 mod steps;
 mod string_buffer;
+mod symbol_uses;
 mod symbols;
 mod table;
 

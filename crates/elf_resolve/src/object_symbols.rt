@@ -6,20 +6,10 @@ use crate::section_marks::SectionMarks;
 use crate::string_buffer::{HeldText, StringBuffer, split_version};
 use elf_model::{LinkCause, SymbolRole, SymbolUse};
 use elf_record::Sym;
-use elf_record::numbers::{
-    SHN_ABS, SHN_COMMON, SHN_LORESERVE, SHN_UNDEF, STB_GLOBAL, STB_WEAK, STT_FUNC, STV_DEFAULT,
-};
+use elf_record::numbers::{SHN_LORESERVE, SHN_UNDEF};
+use crate::symbol_uses::{is_global, use_of};
 use crate::symbols::Symbol;
 use crate::table::{KeyFault, KeyTable};
-
-/// The binding of a symbol that is one in all of a process, as GNU files have it.
-const STB_GNU_UNIQUE: u8 = 10;
-
-/// The type of a function that is found by a call, as GNU files have it.
-const STT_GNU_IFUNC: u8 = 10;
-
-/// The section index of a common of the large model (psABI, Special Section Indexes).
-const SHN_X86_64_LCOMMON: u16 = 0xff02;
 
 /// The symbol of an object with intermediate code alone.
 const LTO_MARK: &[u8] = b"__gnu_lto_slim";
@@ -52,10 +42,10 @@ pub(crate) fn take_symbols(
 /// Returns the symbol of an index in the bytes of a table, if it is global, weak or unique.
 pub(crate) fn global_in(rows: &[u8], index: u64) -> Option<Sym> {
     let symbol = symbol_in(rows, index)?;
-    match symbol.binding() {
-        STB_GLOBAL | STB_WEAK | STB_GNU_UNIQUE => Some(symbol),
-        _ => None,
+    if !is_global(&symbol) {
+        return None;
     }
+    Some(symbol)
 }
 
 /// Takes a symbol at a file offset, if it has a name.
@@ -130,56 +120,6 @@ fn held_bytes(strings: &StringBuffer, text: Option<HeldText>) -> Option<&[u8]> {
 fn is_in_dropped(symbol: &Sym, marks: &SectionMarks) -> bool {
     let section = symbol.st_shndx;
     section != SHN_UNDEF && section < SHN_LORESERVE && marks.is_dropped(u32::from(section))
-}
-
-/// Returns how a symbol uses its key; a definition in a dropped section is a reference.
-fn use_of(symbol: &Sym, dropped: bool) -> SymbolUse {
-    SymbolUse {
-        role: if dropped { reference_role(symbol) } else { role_of(symbol) },
-        restricted: symbol.visibility() != STV_DEFAULT,
-        dropped,
-        absolute: if symbol.st_shndx == SHN_ABS {
-            Some(symbol.st_value)
-        } else {
-            None
-        },
-    }
-}
-
-/// Returns what a reference is to its key.
-fn reference_role(symbol: &Sym) -> SymbolRole {
-    if symbol.binding() == STB_WEAK {
-        return SymbolRole::WeakReference;
-    }
-    SymbolRole::Reference
-}
-
-/// Returns what a symbol is to its key.
-fn role_of(symbol: &Sym) -> SymbolRole {
-    if symbol.st_shndx == SHN_UNDEF {
-        return reference_role(symbol);
-    }
-    if is_common(symbol) {
-        return SymbolRole::Common(symbol.st_size);
-    }
-    if symbol.binding() == STB_WEAK {
-        return SymbolRole::WeakDefinition;
-    }
-    SymbolRole::Definition
-}
-
-/// Returns `true` if a symbol is a common.
-fn is_common(symbol: &Sym) -> bool {
-    symbol.st_shndx == SHN_COMMON || symbol.st_shndx == SHN_X86_64_LCOMMON
-}
-
-/// Returns `true` if a symbol is a definition, not weak and no function.
-pub(crate) fn is_data_definition(symbol: &Sym) -> bool {
-    symbol.binding() != STB_WEAK
-        && symbol.st_shndx != SHN_UNDEF
-        && !is_common(symbol)
-        && symbol.kind() != STT_FUNC
-        && symbol.kind() != STT_GNU_IFUNC
 }
 
 /// Returns the names of the keys of a symbol: of `NAME@@VERSION` the name `NAME@VERSION` and, unless
