@@ -211,7 +211,7 @@ place_checks file at refused_at address size = elim (holder_of file address size
 ]
 
 -- CHANGES. Bytes that are stored at an offset of a segment, by the index of its program header, and
--- how many bytes from there may be changed_image
+-- how many bytes from there may be changed
 pub record SegmentWrite : Type 0 where
   pub segment : ℕ
   pub size : ℕ

@@ -87,7 +87,7 @@ key_state_after before Multiple = before
 key_state_after before (Enlarged size) = state.Common size
 key_state_after before (BecomesState made) = made
 
--- a definition ends at a key that is defined: the key without the version is not key_changed either
+-- a definition ends at a key that is defined: the key without the version is not changed either
 abbrev pub is_absolute : SharedKind → Bool
 is_absolute Absolute = true
 is_absolute _ = false
