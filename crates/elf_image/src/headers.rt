@@ -1,6 +1,6 @@
 //! The checks of a file's headers before its image is made.
 ghost use Rattle.std.specs.Prelude.{◌≡◌, ◌+◌, ◌<◌, ◌≤◌, ℕ, List, None, length, IfOk};
-ghost use Rattle.elf_model.specs.Image.{segment_load_checks};
+ghost use Rattle.elf_model.specs.ImageChecks.{segment_load_checks};
 ghost use Rattle.elf_model.specs.Checks.{first_refusal};
 ghost use Rattle.elf_record.specs.Phdr.{IsPhdr};
 ghost use Rattle.elf_source.specs.Prelude.{KeepsSource};

@@ -2,7 +2,7 @@
 use Rattle.std.proofs.Common.{◌≡◌, ℕ, ◌==◌, ◌&&◌, ◌||◌, not, Bool, true, false, List, refl, sym, ◌∙◌, subst}
 use Rattle.elf_model.specs.Prelude.{DisplayedName, EveryRow, ListingStyle, RowFilter as RowsShown, Suffix, chooses, is_narrow, is_placed, narrowed, place_of_symbol, placed_choice, sh_type, shows_place, shows_symbol, st_shndx, symbol_choice}
 use Rattle.elf_model.proofs.PlaceLaws.{every_place_is_shown}
-use Rattle.elf_model.proofs.SelectionLaws.{every_symbol_is_shown}
+use Rattle.elf_model.proofs.FilterLaws.{every_symbol_is_shown}
 use Rattle.elf_model.specs.declared.place_filters.RowPlace.{RowPlace}
 use Rattle.elf_options.specs.Prelude.{choice_of, style_of}
 use Rattle.elf_options.specs.declared.caps.ListingStyle.{ListingStyle as Shape}

@@ -112,7 +112,7 @@ impl<S: Source, W: Sink> Listing<'_, '_, '_, '_, S, W> {
 
     /// Returns `true` if the row at a place with the name that was read is shown, with the version
     /// after it, if there is one.
-    #[tactic(auto, using(elf_model::proofs::SelectionLaws::narrowed_chooses))]
+    #[tactic(auto, using(elf_model::proofs::FilterLaws::narrowed_chooses))]
     pub(crate) fn is_row_shown<C: RowSelection>(
         &self,
         place: &RowPlace,
@@ -144,7 +144,7 @@ impl<S: Source, W: Sink> Listing<'_, '_, '_, '_, S, W> {
 
     /// Returns `true` if the row of a symbol with the name that was read is shown, with the version
     /// after it, if there is one.
-    #[tactic(auto, using(elf_model::proofs::SelectionLaws::narrowed_chooses))]
+    #[tactic(auto, using(elf_model::proofs::FilterLaws::narrowed_chooses))]
     pub(crate) fn is_symbol_row_shown<C: RowSelection>(
         &self,
         symbol: &SymbolClass,

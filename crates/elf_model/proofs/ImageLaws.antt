@@ -1,32 +1,29 @@
 -- Laws of images.
-use Rattle.std.proofs.Common.{◌≡◌, ℕ, zero, suc, ◌+◌, ◌-◌, ◌%◌, ◌^◌, ◌≤◌, ◌<◌, ◌==◌, ◌&&◌, ◌||◌, not, nat_lt, nat_le, get_or, inl, inr, Bool, true, false, List, [], ◌∷◌, ◌++◌, length, length-append, replicate, map, filter, flat_map, All, Option, None, Some, Result, Ok, Err, refl, sym, ap, subst, ◌∙◌, arith}
+use Rattle.std.proofs.Common.{◌≡◌, ℕ, ◌+◌, ◌-◌, ◌%◌, ◌^◌, ◌≤◌, ◌==◌, ◌&&◌, ◌||◌, not, nat_lt, nat_le, get_or, inl, inr, Bool, true, false, List, [], ◌∷◌, ◌++◌, length, map, filter, flat_map, All, Option, None, Some, Result, Ok, Err, refl, sym, ap, subst, ◌∙◌, arith}
 use Rattle.std.specs.Prelude.{option_to_list}
 use Rattle.std.specs.List.{list_any}
-use Rattle.std.proofs.lemmas.Bool.{cases_Bool, cases_eq, and_parts, eqb-true, leb-true, ltb-false, ltb-true, not-true, or_parts}
-use Rattle.std.proofs.lemmas.List.{length-replicate}
+use Rattle.std.proofs.lemmas.Bool.{cases_Bool, and_parts, eqb-true, leb-true, ltb-false, ltb-true, not-true, or_parts}
 use Rattle.std.proofs.lemmas.List.Elements.{All-nil, All-cons, All-append, All-head, All-tail}
-use Rattle.elf_model.specs.Prelude.{AllInside, IsInside, StoredBytes, byte_after, byte_with, dynamic_segment_index, e_phnum, header_checks, is_outside, load_checks, overlap_checks, p_filesz, p_offset, patched, places_from, slice, without_sections, first_refusal, little, p_memsz, p_type, p_vaddr, r_offset, r_type, segment_at}
+use Rattle.elf_model.specs.Prelude.{AllInside, IsInside, StoredBytes, byte_after, byte_with, dynamic_segment_index, e_phnum, patched, without_sections, first_refusal, little, p_memsz, p_type, p_vaddr, r_offset, r_type, segment_at}
 use Rattle.elf_model.specs.Numbers.{DT_RELACOUNT, PT_LOAD, R_X86_64_NONE, R_X86_64_RELATIVE}
 use Rattle.elf_model.specs.Checks.{Check, refuse}
-use Rattle.elf_model.specs.Image.{ImageChange, ImageSource, Keeps, Lacks, Refuses, RelativeAddress, SegmentWrite, Stores, and_writes, change_by, change_of_type, direct_change, direct_changes, dynamic_image_checks, entry_change, entry_ranges, has_table, holder_of, holds_in_memory, image_changes, is_lack, is_resolved, kind_checks, linkage_table, meets_rows, place_checks, image, image_by_segments, image_checks, range_changes, read_addresses, rela_table, relative_changes, relative_table, relocated_segment, relocation_changes, requested_checks, resolved_changes, row_value, segment_load_checks, segments_load_checks, stored_at, stored_in, table_addresses, unrelocated, word_before, writes_of}
+use Rattle.elf_model.specs.ImageChecks.{linkage_table, image_checks, rela_table, relative_table, requested_checks, row_value}
+use Rattle.elf_model.specs.Image.{ImageChange, ImageSource, Keeps, Lacks, Refuses, RelativeAddress, SegmentWrite, Stores, and_writes, change_by, change_of_type, direct_change, direct_changes, entry_change, entry_ranges, has_table, holder_of, holds_in_memory, image_changes, is_lack, is_resolved, meets_rows, place_checks, image, image_by_segments, range_changes, read_addresses, relative_changes, relocated_segment, relocation_changes, resolved_changes, stored_at, stored_in, table_addresses, unrelocated, word_before, writes_of}
 use Rattle.elf_model.specs.ImageValues.{changed_size, dynamic_symbol_checks, dynamic_type, entry_symbol, stored_bytes}
 use Rattle.elf_model.specs.RelativeRelocations.{LAST_ADDRESS}
 use Rattle.elf_model.specs.ImageItems.{ItemValues}
-use Rattle.elf_model.specs.ImageLaws.{ImageIsWhole, IsElsewhere, OthersAreKept, TablesAreKept, UnlinkedIsKept, UnwrittenIsKept, WindowsAreParts, WritesAreInside}
+use Rattle.elf_model.specs.ImageLaws.{IsElsewhere, OthersAreKept, TablesAreKept, UnlinkedIsKept, UnwrittenIsKept, WindowsAreParts, WritesAreInside}
 use Rattle.elf_model.specs.TraitNumbers.{PF_W}
 use Rattle.elf_model.specs.Traits.{has_text_relocations, permits}
-use Rattle.elf_model.specs.declared.causes.Cause.TheVariants.{BadLink, Budget, LoadAlign, PlaceOutside, Relr, TableOutside, TableWritten}
+use Rattle.elf_model.specs.declared.causes.Cause.TheVariants.{PlaceOutside, Relr, TableWritten}
 use Rattle.elf_model.specs.declared.causes.Cause.{Cause}
 use Rattle.elf_model.specs.declared.causes.Refusal.{Refusal}
 use Rattle.elf_model.specs.declared.dynamic_types.DynamicType.{DynamicType}
-use Rattle.elf_model.specs.Overlaps.{PAGE_SIZE}
-use Rattle.elf_model.proofs.CheckSteps.{first_refusal-back, passes_front}
-use Rattle.elf_model.proofs.Slices.{slice-size}
-use Rattle.elf_model.proofs.StyleLemmas.{view_is_as_long}
+use Rattle.elf_model.proofs.CheckSteps.{first_refusal-back}
 use Rattle.elf_model.proofs.ChangeLaws.{length-little}
 use Rattle.elf_model.proofs.ImageValues.{stored_fits}
 use Rattle.elf_model.proofs.LookupSteps.{first_that-holds}
-use Rattle.elf_model.proofs.PatchLaws.{byte_patched, length_kept, window_patched}
+use Rattle.elf_model.proofs.PatchLaws.{byte_patched, window_patched}
 
 -- a write is in a segment that may be written, in its bytes, and that has no table
 pub record IsAllowed (file : List ℕ) (at : ℕ) (write : SegmentWrite) : Type 0 where
@@ -41,13 +38,13 @@ IsAllowedChange file at (Lacks refusal) = Unit {0}
 IsAllowedChange file at (Refuses refusal) = Unit {0}
 
 -- a list of checks passes if the first does, and the others
-passes_first : (check : Check) (checks : List Check) → first_refusal (check ∷ checks) ≡ None → (check.fails ≡ false) × (first_refusal checks ≡ None)
+pub passes_first : (check : Check) (checks : List Check) → first_refusal (check ∷ checks) ≡ None → (check.fails ≡ false) × (first_refusal checks ≡ None)
 passes_first check checks e = elim (cases_Bool check.fails) [
   | inl fails ↦ let f = rw fails at e in absurd (cc)
   | inr passes ↦ (passes, rw passes at e)
 ]
 
-true_if_not_false : (b : Bool) → not b ≡ false → b ≡ true
+pub true_if_not_false : (b : Bool) → not b ≡ false → b ≡ true
 true_if_not_false true e = refl
 true_if_not_false false e = absurd (cc)
 
@@ -279,10 +276,10 @@ none_stored file segment (write ∷ writes) all closed =
     ]
 
 -- an image and its writes
-record HasWrites (whole file : List ℕ) (segment : ℕ) (items : ItemValues) (bytes : List ℕ) : Type 0 where
-  writes : List SegmentWrite
-  are : writes_of items.partial (image_changes whole file items) ≡ Ok writes
-  bytes_are : bytes ≡ relocated_segment whole file segment writes
+pub record HasWrites (whole file : List ℕ) (segment : ℕ) (items : ItemValues) (bytes : List ℕ) : Type 0 where
+  pub writes : List SegmentWrite
+  pub are : writes_of items.partial (image_changes whole file items) ≡ Ok writes
+  pub bytes_are : bytes ≡ relocated_segment whole file segment writes
 
 module _ (whole file : List ℕ) (headers segment most : ℕ) (items : ItemValues) (bytes : List ℕ) where
   after_checks : (refusal : Option Refusal) (behind : Result (List ℕ) Refusal)
@@ -297,7 +294,7 @@ module _ (whole file : List ℕ) (headers segment most : ℕ) (items : ItemValue
   of_writes (Err refusal) is e = absurd (cc)
   of_writes (Ok writes) is e = record { writes = writes; are = is; bytes_are = cc }
 
-  made : image_by_segments whole file headers segment most items ≡ Ok bytes
+  pub made : image_by_segments whole file headers segment most items ≡ Ok bytes
       → (first_refusal (image_checks file headers (requested_checks file segment most)) ≡ None) × HasWrites whole file segment items bytes
   unfolding image_by_segments
   made e =
@@ -345,79 +342,3 @@ pub windows_are_parts : WindowsAreParts
 unfolding relocated_segment
 windows_are_parts whole file segment low n writes inside fits =
     window_patched (stored_in segment writes) (unrelocated whole file (segment_at file segment)) low n inside fits
-
--- the checks of the program header of an index, of those of all
-flat_passes : (f : ℕ → List Check) (place : ℕ → ℕ) (first count i : ℕ) → first_refusal (flat_map f (places_from place first count)) ≡ None
-    → first ≤ i → i < first + count → first_refusal (f (place i)) ≡ None
-unfolding places_from
-flat_passes f place first zero i e low high = absurd (omega (arith, low, high))
-flat_passes f place first (suc count) i e low high = elim (cases_eq first i) [
-  | inl same ↦ subst (λ k. first_refusal (f (place k)) ≡ None) same (passes_front (f (place first)) (flat_map f (places_from place (suc first) count)) e)
-  | inr other ↦
-      flat_passes f place (suc first) count i (first_refusal-back (f (place first)) (flat_map f (places_from place (suc first) count)) e) (omega (arith, low, other)) (omega (arith, high))
-]
-
-module _ (whole : List ℕ) (headers segment most : ℕ) where
-  abbrev file : List ℕ
-  file = without_sections whole
-
-  abbrev at : ℕ
-  at = segment_at file segment
-
-  record Fits : Type 0 where
-    held : p_filesz file at ≤ p_memsz file at
-    inside : p_offset file at + p_filesz file at ≤ length file
-
-  header_fits : p_type file at == PT_LOAD ≡ true → first_refusal (segment_load_checks file at) ≡ None → Fits
-  header_fits load e =
-      let f = rw (load, segment_load_checks) at e in
-      let outside = nat_lt (p_memsz file at) (p_filesz file at)
-      || (is_outside (length file) (p_offset file at) (p_filesz file at) || nat_lt (2 ^ 64) (p_vaddr file at + p_memsz file at)) in
-      let aligned = passes_first (refuse (not (p_vaddr file at % PAGE_SIZE == p_offset file at % PAGE_SIZE)) at LoadAlign) (refuse outside at TableOutside ∷ []) f in
-      let within = passes_first (refuse outside at TableOutside) [] aligned.1 in
-      let parts = or_parts (nat_lt (p_memsz file at) (p_filesz file at)) _ within.0 in
-      let others = or_parts (is_outside (length file) (p_offset file at) (p_filesz file at)) (nat_lt (2 ^ 64) (p_vaddr file at + p_memsz file at)) parts.1 in
-      record {
-        held = ltb-false (p_memsz file at) (p_filesz file at) parts.0;
-        inside = ltb-false (length file) (p_offset file at + p_filesz file at) others.0;
-      }
-
-  abbrev linked_checks : Option ℕ → List Check
-  linked_checks None = []
-  linked_checks (Some index) = dynamic_image_checks file (segment_at file index)
-
-  segment_fits : first_refusal (image_checks file headers (requested_checks file segment most)) ≡ None → Fits
-  unfolding image_checks requested_checks segments_load_checks
-  segment_fits e =
-      let requested = requested_checks file segment most in
-      let loads = segments_load_checks file in
-      let front = ((header_checks file ++ load_checks file headers) ++ overlap_checks file) ++ kind_checks file in
-      let all = passes_front ((front ++ loads) ++ requested) (linked_checks (dynamic_segment_index file)) e in
-      let third = passes_front (front ++ loads) requested all in
-      let here = first_refusal-back (front ++ loads) requested all in
-      let asked = passes_first (refuse (not (nat_lt segment (e_phnum file)) || not (p_type file at == PT_LOAD)) 0x38 BadLink) (refuse (nat_lt most (p_memsz file at)) at Budget ∷ []) here in
-      let parts = or_parts (not (nat_lt segment (e_phnum file))) (not (p_type file at == PT_LOAD)) asked.0 in
-      let below = ltb-true segment (e_phnum file) (true_if_not_false (nat_lt segment (e_phnum file)) parts.0) in
-      let load = true_if_not_false (p_type file at == PT_LOAD) parts.1 in
-      header_fits load (flat_passes (segment_load_checks file) (segment_at file) 0 (e_phnum file) segment (first_refusal-back front loads third) (omega arith) (omega (arith, below)))
-
-  unrelocated_length : Fits → length (unrelocated whole file at) ≡ p_memsz file at
-  unfolding unrelocated
-  unrelocated_length fits =
-      let long = view_is_as_long whole in
-      let front = slice-size whole (p_offset file at) (p_filesz file at) (omega (arith, long, fits.inside)) in
-      let rest = length-replicate {A = ℕ} (p_memsz file at - p_filesz file at) 0 in
-      let both = length-append (slice whole (p_offset file at) (p_filesz file at)) (replicate (p_memsz file at - p_filesz file at) 0) in
-      omega (arith, front, rest, both, fits.held)
-
-pub image_is_whole : ImageIsWhole
-unfolding image relocated_segment
-image_is_whole whole headers segment most items bytes e =
-    let file = without_sections whole in
-    let at = segment_at file segment in
-    let base = unrelocated whole file at in
-    let m = made whole file headers segment most items bytes e in
-    let long = unrelocated_length whole headers segment most (segment_fits whole headers segment most m.0) in
-    let inside = writes_are_inside whole file items items.partial m.1.writes segment m.1.are in
-    let kept = length_kept (stored_in segment m.1.writes) base (subst (λ n. AllInside n (stored_in segment m.1.writes)) (sym long) inside) in
-    ap length m.1.bytes_are ∙ kept ∙ long

@@ -36,6 +36,7 @@ pub mod OnLoader
 pub mod OnImage
 pub mod ImageValues
 pub mod ImageLaws
+pub mod ImageWhole
 pub mod ImageHolders
 mod OneRule
 pub mod OverlapLemmas
@@ -56,6 +57,8 @@ pub mod StoreLemmas
 pub mod StyleLemmas
 pub mod SuffixLaws
 pub mod SymbolKinds
+pub mod SameFaults
+pub mod FilterLaws
 pub mod SelectionLaws
 pub mod ChoiceLemmas
 pub mod ValueLaws

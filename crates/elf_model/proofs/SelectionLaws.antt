@@ -1,13 +1,11 @@
 -- The first fault of a listing, whatever rows are shown.
-use Rattle.std.proofs.Common.{◌≡◌, ℕ, zero, suc, ◌+◌, ◌*◌, ◌%◌, ◌^◌, ◌==◌, ◌/◌, ◌&&◌, ◌||◌, not, nat_lt, if◌then◌else◌, Bool, true, false, List, [], ◌∷◌, ◌++◌, Option, None, Some, Result, Ok, Err, refl, sym, ap, ap₂, ◌∙◌}
-use Rattle.elf_model.specs.Prelude.{Check, DisplayedName, EveryRow, Fault, HEADER, HeaderTable, LAST_ADDRESS, Line, LinePrefix, ListingItem, ListingStyle, LocatedSymbols, LocatedTable, NoSuffix, NoteRow, RELR_BITS, RowFilter, SECTIONS, SEGMENTS, Suffix, TableKind, VERSYM_SIZE, VisitedRecord, after_refusal, all_checks, bit_row, bitmap_base, chooses, chosen_row, d_tag, d_un, dynamic_at, dynamic_count, dynamic_prefix, dynamic_relocations, dynamic_row, dynamic_segment_index, e_machine, e_phnum, e_shnum, each, either_kind, entries_rows, entry_at, entry_count, fault_of, first_refusal, first_segment_relocations, form_rows, guarded, has, has_symbols, has_tables, header_checks, header_row, is_bitmap, is_string_tag, kinds_rows, known_parts, linked_at, listing, load_checks, load_items, loaded_items, located_items, located_row, located_rows, located_symbols, located_table, locates_relocations, mapped_strings, named_among, name_index, named_at, no_name, note_align, note_row, note_rows, notes_rows, number_in, numbered_row, or_refusal, overlap_checks, p_align, p_filesz, p_offset, padded_size, place_of_dynamic, place_of_header, place_of_record, place_of_relr, place_of_section, place_of_segment, place_of_version, placed_choice, r_sym, refused_row, relative_relocations, relocation_choice, relocation_prefix, relocation_row, relocation_row_with_version, relocation_size, relocation_table_rows, relocations, relocations_with_versions, relr_prefix, relr_row, relr_rows, relr_rows_at, relr_word, section_at, section_dynamic, section_name, section_notes, section_prefix, section_row, section_versions, segment_at, segment_dynamic, segment_notes, segment_relocations, segment_dynamic_checks, segment_row, sh_addralign, sh_link, sh_offset, sh_size, shown as shown_name, shows_place, slice, st_name, strings_of, suffixed_relocation_rows, suffixed_row, suffixed_symbol_rows, suffixed_symbols, suffixes_refusal, symbol_choice, symbol_named, symbol_prefix, symbol_row, symbol_row_with_version, symbol_suffix, symbol_version_prefix, symbol_version_row, symbol_version_rows, symbol_versions, symbols, table_headers, table_items, table_rows, value_name, version_definitions, version_named, version_needs, version_prefix, version_row, version_strings, versioned_count, versioned_symbols, versions_rows, versym, view_checks, viewed, walk_rows, walked, word_rows}
+use Rattle.std.proofs.Common.{◌≡◌, ℕ, ◌+◌, ◌*◌, ◌%◌, ◌^◌, ◌==◌, ◌/◌, ◌&&◌, not, nat_lt, if◌then◌else◌, Bool, true, false, List, [], ◌∷◌, ◌++◌, Option, None, Some, Result, Ok, Err}
+use Rattle.elf_model.specs.Prelude.{EveryRow, Fault, HEADER, HeaderTable, LAST_ADDRESS, LinePrefix, ListingItem, ListingStyle, LocatedSymbols, LocatedTable, NoSuffix, NoteRow, RELR_BITS, RowFilter, SECTIONS, SEGMENTS, TableKind, VERSYM_SIZE, VisitedRecord, all_checks, bit_row, bitmap_base, chosen_row, d_tag, d_un, dynamic_at, dynamic_count, dynamic_prefix, dynamic_relocations, dynamic_row, dynamic_segment_index, e_machine, e_phnum, e_shnum, each, either_kind, entries_rows, entry_at, entry_count, fault_of, first_segment_relocations, form_rows, has, has_symbols, has_tables, header_checks, header_row, is_bitmap, is_string_tag, kinds_rows, known_parts, linked_at, listing, load_checks, load_items, loaded_items, located_items, located_row, located_rows, located_symbols, located_table, locates_relocations, mapped_strings, named_among, name_index, named_at, no_name, note_align, note_row, note_rows, notes_rows, number_in, numbered_row, overlap_checks, p_align, p_filesz, p_offset, padded_size, place_of_dynamic, place_of_header, place_of_record, place_of_relr, place_of_section, place_of_segment, place_of_version, placed_choice, r_sym, refused_row, relative_relocations, relocation_choice, relocation_prefix, relocation_row, relocation_row_with_version, relocation_size, relocation_table_rows, relocations, relocations_with_versions, relr_prefix, relr_row, relr_rows, relr_rows_at, relr_word, section_at, section_dynamic, section_name, section_notes, section_prefix, section_row, section_versions, segment_at, segment_dynamic, segment_notes, segment_relocations, segment_dynamic_checks, segment_row, sh_addralign, sh_link, sh_offset, sh_size, shown as shown_name, shows_place, slice, st_name, strings_of, suffixed_relocation_rows, suffixed_symbol_rows, suffixed_symbols, suffixes_refusal, symbol_choice, symbol_named, symbol_prefix, symbol_row, symbol_row_with_version, symbol_suffix, symbol_version_prefix, symbol_version_row, symbol_version_rows, symbol_versions, symbols, table_headers, table_items, table_rows, value_name, version_definitions, version_named, version_needs, version_prefix, version_row, version_strings, versioned_count, versioned_symbols, versions_rows, versym, view_checks, viewed, walk_rows, walked, word_rows}
 use Rattle.elf_model.specs.TableKinds.{dynamic_rows}
 use Rattle.elf_model.specs.VersionRows.{visited_rows}
 use Rattle.elf_model.specs.Versions.{flags_word, hash_word, number_word}
 use Rattle.elf_model.specs.declared.versions.VersionKind.TheVariants.{Definition, File}
 use Rattle.elf_model.specs.declared.causes.Cause.TheVariants.{Relr, VersionCut, VersionIndex}
-use Rattle.elf_model.specs.SymbolFilterLaws.{EverySymbolIsShown, NarrowedChooses}
-use Rattle.elf_model.specs.declared.causes.Cause.{Cause}
 use Rattle.elf_model.specs.declared.causes.Refusal.{Refusal}
 use Rattle.elf_model.specs.declared.relocation_tables.RelocationForm.{RelocationForm}
 use Rattle.elf_model.specs.declared.relocation_tables.RelocationForm.TheVariants.{Relative, WithAddends, WithoutAddends}
@@ -15,79 +13,7 @@ use Rattle.elf_model.specs.declared.relocation_tables.RelocationTable.{Relocatio
 use Rattle.elf_model.specs.declared.relocation_tables.RelocationTable.TheVariants.{Jmprel, Rel, Rela, Relr as RelrTable}
 use Rattle.elf_model.specs.declared.place_filters.PlaceFilter.{PlaceFilter}
 use Rattle.elf_model.specs.declared.symbol_filters.SymbolFilter.{SymbolFilter}
-
-pub narrowed_chooses : NarrowedChooses
-narrowed_chooses true choice name after = refl
-narrowed_chooses false choice name after = refl
-
-pub every_symbol_is_shown : EverySymbolIsShown
-every_symbol_is_shown filter is_defined is_dynamic none = by filter.defined filter.undefined filter.dynamic none
-  where
-    by : (d u y : Bool) → d || (u || y) ≡ false → (not d || is_defined) && ((not u || not is_defined) && (not y || is_dynamic)) ≡ true
-    by false false false none = refl
-    by false false true none = cc
-    by false true y none = cc
-    by true u y none = cc
-
--- two listings have the same first fault
-pub record SameFault (a b : List ListingItem) : Type 0 where
-  pub same : fault_of a ≡ fault_of b
-
--- the first fault of two listings one after another
-pub fault_split : (a b : List ListingItem) → fault_of (a ++ b) ≡ or_refusal (fault_of a) (fault_of b)
-fault_split [] b = refl
-fault_split (Line text ∷ a) b = fault_split a b
-fault_split (Fault refusal ∷ a) b = refl
-
-pub alike : {a : List ListingItem} → SameFault a a
-alike = record { same = refl }
-
-pub equal : {a b : List ListingItem} → a ≡ b → SameFault a b
-equal is = record { same = ap fault_of is }
-
-pub appended : {a b c d : List ListingItem} → SameFault a b → SameFault c d → SameFault (a ++ c) (b ++ d)
-appended {a} {b} {c} {d} first second = record { same = fault_split a c ∙ ap₂ or_refusal first.same second.same ∙ sym (fault_split b d) }
-
--- of rows
-pub each_fault : (row other : ℕ → List ListingItem) → ((i : ℕ) → SameFault (row i) (other i)) → (first count : ℕ) → SameFault (each row first count) (each other first count)
-unfolding each
-each_fault row other rows first zero = alike
-each_fault row other rows first (suc count) = appended (rows first) (each_fault row other rows (suc first) count)
-
-pub guarded_fault : (checks : List Check) {a b : List ListingItem} → SameFault a b → SameFault (guarded checks a) (guarded checks b)
-guarded_fault checks {a} {b} items = by (first_refusal checks)
-  where
-    by : (first : Option Refusal)
-        → SameFault (elim first as (λ _. List ListingItem) [ None ↦ a | Some refusal ↦ Fault refusal ∷ [] ])
-        (elim first as (λ _. List ListingItem) [ None ↦ b | Some refusal ↦ Fault refusal ∷ [] ])
-    by None = items
-    by (Some refusal) = alike
-
-pub after_fault : (first : Option Refusal) {a b : List ListingItem} → SameFault a b → SameFault (after_refusal first a) (after_refusal first b)
-after_fault None items = items
-after_fault (Some refusal) items = alike
-
-pub where_fault : (asked : Bool) {a b : List ListingItem} → SameFault a b
-    → SameFault (elim asked as (λ _. List ListingItem) [ true ↦ a | false ↦ [] ]) (elim asked as (λ _. List ListingItem) [ true ↦ b | false ↦ [] ])
-where_fault true items = items
-where_fault false items = alike
-
--- of a row with a name, whether it is shown or not
-pub line_fault : (one other : Bool) (line : List ℕ) → SameFault (if one then Line line ∷ [] else []) (if other then Line line ∷ [] else [])
-line_fault true true line = record { same = refl }
-line_fault true false line = record { same = refl }
-line_fault false true line = record { same = refl }
-line_fault false false line = record { same = refl }
-
-pub chosen_fault : (one other : RowFilter) (front : LinePrefix) (at : ℕ) (name : Result DisplayedName Cause) → SameFault (chosen_row one front at name) (chosen_row other front at name)
-chosen_fault one other front at (Ok name) = line_fault (chooses one name NoSuffix) (chooses other name NoSuffix) _
-chosen_fault one other front at (Err cause) = alike
-
-pub suffixed_fault : (one other : RowFilter) (front : LinePrefix) (at : ℕ) (name : Result DisplayedName Cause) (suffix : Result Suffix Refusal)
-    → SameFault (suffixed_row one front at name suffix) (suffixed_row other front at name suffix)
-suffixed_fault one other front at (Ok name) (Ok suffix) = line_fault (chooses one name suffix) (chooses other name suffix) _
-suffixed_fault one other front at (Ok name) (Err refusal) = alike
-suffixed_fault one other front at (Err cause) suffix = alike
+use Rattle.elf_model.proofs.SameFaults.{SameFault, after_fault, alike, appended, chosen_fault, each_fault, guarded_fault, line_fault, suffixed_fault, where_fault}
 
 -- THE ROWS OF TABLES in two styles that differ in what is shown alone
 module _ (file : List ℕ) (style : ListingStyle) (rows : RowFilter) (filter : SymbolFilter) (place : PlaceFilter) where

@@ -4,7 +4,8 @@ use Rattle.std.specs.List.{list_any}
 use Rattle.elf_model.specs.Answer.{Answer}
 use Rattle.elf_model.specs.Apply.{places_from}
 use Rattle.elf_model.specs.FindApplyAnswer.{applied_status, applied_text}
-use Rattle.elf_model.specs.Image.{LoadedTable, SegmentWrite, image, linkage_table, rela_table, relative_table}
+use Rattle.elf_model.specs.ImageChecks.{LoadedTable, linkage_table, rela_table, relative_table}
+use Rattle.elf_model.specs.Image.{SegmentWrite, image}
 use Rattle.elf_model.specs.ImageItems.{ItemValues}
 use Rattle.elf_model.specs.LoaderScope.{dynamic_segment_index}
 use Rattle.elf_model.specs.Records.{FILE_HEADER_SIZE, PROGRAM_HEADER_SIZE, e_phnum, p_filesz, p_memsz, segment_at}

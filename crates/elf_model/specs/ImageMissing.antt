@@ -5,7 +5,8 @@ use Rattle.elf_model.specs.Causes.{cause_word}
 use Rattle.elf_model.specs.Checks.{first_refusal}
 use Rattle.elf_model.specs.Fields.{Fields, closed_line}
 use Rattle.elf_model.specs.Fields.Field.{ArgSpec, Decimal, Hexadecimal}
-use Rattle.elf_model.specs.Image.{ImageChange, Keeps, Lacks, Refuses, Stores, image_changes, image_checks}
+use Rattle.elf_model.specs.ImageChecks.{image_checks}
+use Rattle.elf_model.specs.Image.{ImageChange, Keeps, Lacks, Refuses, Stores, image_changes}
 use Rattle.elf_model.specs.ImageItems.{ItemValues}
 use Rattle.elf_model.specs.NameTables.{relocation_type_text}
 use Rattle.elf_model.specs.Numbers.{EM_X86_64}

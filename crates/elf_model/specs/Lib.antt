@@ -104,6 +104,7 @@ pub mod BoundSymbols
 pub mod LoaderCache
 pub mod NeededVersions
 pub mod LibraryFiles
+pub mod ImageChecks
 pub mod ImageItems
 pub mod ImageValues
 pub mod Image

@@ -2,13 +2,13 @@
 ghost use Rattle.elf_model.specs.SymbolFilterLaws.{EveryPlaceIsShown, EverySymbolIsShown, NarrowedChooses, SelectionsHideNoFault};
 
 /// Of the same rows, or none, those are shown that are among them.
-#[tactic(auto, using(crate::proofs::SelectionLaws::narrowed_chooses))]
+#[tactic(auto, using(crate::proofs::FilterLaws::narrowed_chooses))]
 pub fn narrowed_chooses()
     ensures { NarrowedChooses }
 {}
 
 /// If no condition is set, every symbol is shown.
-#[tactic(auto, using(crate::proofs::SelectionLaws::every_symbol_is_shown))]
+#[tactic(auto, using(crate::proofs::FilterLaws::every_symbol_is_shown))]
 pub fn every_symbol_is_shown()
     ensures { EverySymbolIsShown }
 {}

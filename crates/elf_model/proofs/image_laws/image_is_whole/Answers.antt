@@ -1,4 +1,4 @@
-use Rattle.elf_model.proofs.ImageLaws.{image_is_whole}
+use Rattle.elf_model.proofs.ImageWhole.{image_is_whole}
 use Rattle.elf_model.proofs.image_laws.image_is_whole.Goals as goal
 
 pub returns : goal.returns
