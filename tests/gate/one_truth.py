@@ -125,8 +125,11 @@ def lists_of(sources):
     sets = dict(re.findall(r"const (\w+): u16 = ([^;]+);", read(cli, "command_sets.rt")))
     commands = re.findall(r'CommandSpec \{\s*name: "(\w+)",.*?alias: (.*?),\s*bit: (\w+),\s*about: "([^"]*)"',
                           read(cli, "commands.rt"), re.S)
+    # Those of `needs` have names, which the table has in their places.
+    named = dict(re.findall(r"const (\w+): ArgSpec = (.*?^\});", read(cli, "needs_arguments.rt"), re.S | re.M))
+    table = re.sub(r"^    ([A-Z_]+),$", lambda entry: named[entry[1]] + ",", read(cli, "arguments.rt"), flags=re.M)
     arguments = re.findall(r'ArgSpec \{\s*name: "([\w-]+)",\s*short: (.*?),\n\s*alias: (.*?),\n\s*kind: ArgKind::(\w+)(.*?),\n'
-                           r'\s*help: "([^"]*)",\n\s*commands: ([A-Z_| ]+),', read(cli, "arguments.rt").replace("\\n\\", " \\"))
+                           r'\s*help: "([^"]*)",\n\s*commands: ([A-Z_| ]+),', table.replace("\\n\\", " \\"))
     usage, options = {name: "" for name, *_ in commands}, {}
     for name, letter, alias, kind, more, told, words in arguments:
         told = re.sub(r"\\\n\s*", "", told)

@@ -5,8 +5,11 @@ ghost use Rattle.elf_cli.specs.Described.{argument_row};
 
 use crate::arg_specs::{ArgKind, ArgSpec};
 use crate::command_sets::{
-    APPLY, ARCHIVE, BYTES, CHECK, EXPLAIN, FIND, IMAGE, LINES, LIST, LISTING, MANY_FILES, NEEDS,
-    ONE_FILE, READING, SAMPLE, SELECTING, SHOW, TRAITS,
+    APPLY, ARCHIVE, BYTES, CHECK, EXPLAIN, FIND, IMAGE, LINES, LIST, LISTING, MANY_FILES, ONE_FILE,
+    READING, SAMPLE, SELECTING, SHOW, TRAITS,
+};
+use crate::needs_arguments::{
+    CACHE, DEFAULT, LIBRARY_PATH, MAX_TRIES, NO_CACHE, PROBLEMS, ROOT, SYMBOLS, UNUSED,
 };
 use clap::builder::ValueParser;
 
@@ -38,85 +41,15 @@ static ARGUMENTS: [ArgSpec; 46] = [
             0 to 9223372036854775807 [default: no limit]",
         commands: READING,
     },
-    ArgSpec {
-        name: "max-tries",
-        short: None,
-        alias: None,
-        kind: ArgKind::Number(ValueParser::Unsigned(0, 9_223_372_036_854_775_807)),
-        help: "Try at most N paths for a FILE:\n\
-            0 to 9223372036854775807 [default: 100000]",
-        commands: NEEDS,
-    },
-    ArgSpec {
-        name: "library-path",
-        short: None,
-        alias: None,
-        kind: ArgKind::Value("DIRS"),
-        help: "Also search these directories, like those of\n\
-            LD_LIBRARY_PATH for a loader",
-        commands: NEEDS,
-    },
-    ArgSpec {
-        name: "default",
-        short: None,
-        alias: None,
-        kind: ArgKind::Value("DIRS"),
-        help: "Search these directories last, instead of those of\n\
-            a system",
-        commands: NEEDS,
-    },
-    ArgSpec {
-        name: "root",
-        short: None,
-        alias: Some("sysroot"),
-        kind: ArgKind::Value("DIR"),
-        help: "Take each path that begins with a slash relative\n\
-            to DIR",
-        commands: NEEDS,
-    },
-    ArgSpec {
-        name: "cache",
-        short: None,
-        alias: None,
-        kind: ArgKind::Value("FILE"),
-        help: "Search the loader's cache FILE,\n\
-            not /etc/ld.so.cache",
-        commands: NEEDS,
-    },
-    ArgSpec {
-        name: "no-cache",
-        short: None,
-        alias: None,
-        kind: ArgKind::Flag,
-        help: "Search no loader's cache",
-        commands: NEEDS,
-    },
-    ArgSpec {
-        name: "symbols",
-        short: None,
-        alias: Some("bindings"),
-        kind: ArgKind::Flag,
-        help: "Also print which object each symbol comes\n\
-            from",
-        commands: NEEDS,
-    },
-    ArgSpec {
-        name: "unused",
-        short: None,
-        alias: None,
-        kind: ArgKind::Flag,
-        help: "Also print which libraries FILE names itself and\n\
-            uses nothing of",
-        commands: NEEDS,
-    },
-    ArgSpec {
-        name: "problems",
-        short: None,
-        alias: None,
-        kind: ArgKind::Flag,
-        help: "Print only the lines that make the status 1",
-        commands: NEEDS,
-    },
+    MAX_TRIES,
+    LIBRARY_PATH,
+    DEFAULT,
+    ROOT,
+    CACHE,
+    NO_CACHE,
+    SYMBOLS,
+    UNUSED,
+    PROBLEMS,
     ArgSpec {
         name: "require",
         short: None,

@@ -18,6 +18,7 @@ mod faults;
 mod files;
 mod line_sink;
 mod listings;
+mod needs_arguments;
 mod options;
 mod other_tools;
 mod outputs;

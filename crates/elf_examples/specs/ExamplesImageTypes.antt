@@ -51,7 +51,7 @@ AddressesAreStored =
     × StoresByType (typed_entry 0 9) 0x7f0000000012
 
 -- the module id of a bound symbol, and of the file; an offset in a block and from the thread pointer;
--- of an undefined symbol that is weak nothing is stored, but for an item; what is lacking
+-- of a weak undefined symbol nothing is stored without an item; what is missing
 abbrev pub ThreadValuesAreStored : Type 0
 ThreadValuesAreStored =
     StoresByType (typed_entry 16 3) 5
