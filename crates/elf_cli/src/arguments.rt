@@ -9,7 +9,7 @@ use crate::command_sets::{
     READING, SAMPLE, SELECTING, SHOW, TRAITS,
 };
 use crate::needs_arguments::{
-    CACHE, DEFAULT, LIBRARY_PATH, MAX_TRIES, NO_CACHE, PROBLEMS, ROOT, SYMBOLS, UNUSED,
+    BINDINGS, CACHE, DEFAULT, LIBRARY_PATH, MAX_TRIES, NO_CACHE, PROBLEMS, ROOT, UNUSED,
 };
 use clap::builder::ValueParser;
 
@@ -47,7 +47,7 @@ static ARGUMENTS: [ArgSpec; 46] = [
     ROOT,
     CACHE,
     NO_CACHE,
-    SYMBOLS,
+    BINDINGS,
     UNUSED,
     PROBLEMS,
     ArgSpec {

@@ -62,7 +62,7 @@ pub(crate) const NO_CACHE: ArgSpec = ArgSpec {
     commands: NEEDS,
 };
 
-pub(crate) const SYMBOLS: ArgSpec = ArgSpec {
+pub(crate) const BINDINGS: ArgSpec = ArgSpec {
     name: "symbols",
     short: None,
     alias: Some("bindings"),
