@@ -2,7 +2,7 @@
 use Rattle.std.proofs.Common.{◌≡◌, ℕ, if◌then◌else◌, ◌+◌, ◌*◌, ◌/◌, ◌≤◌, ◌==◌, ◌&&◌, ◌||◌, not, Bool, true, false, List, ◌++◌, length, refl, ap, ◌∙◌, arith}
 use Rattle.std.proofs.Math.Nat.{mul-le-mul_left, mul-le-mul_right, mul-add}
 use Rattle.std.proofs.lemmas.Bool.{ltb-false, eqb-true}
-use Rattle.elf_model.specs.Prelude.{CostIsWithinCeiling, HeaderTable, ListingStyle, SuffixesAreWithinMost, TableHeaders, after_header as asked_after, by_sections, by_segments, ceiling, cost_where, e_phnum, e_shnum, e_shstrndx, early_checks, either_kind, entries_kind, file_sections, file_segments, follows_dynamic, gnu_relocations, has, has_tables, header_checks, header_field, is_loadable, is_symbol_table, kinds_cost, known_parts, listing_cost, located_cost, located_most, name_bytes, needs_segments, pass, relative_relocations, relocation_type, relocations, relocations_with_versions, section_kinds, sections_cost, segment_kinds, segments_cost, sh_link, sh_size, sh_type, style_ceiling, suffixed_symbols, suffixes_most, sum_over, symbols, table_checks_of, table_cost, table_headers, tables_ceiling, tables_cost, viewed}
+use Rattle.elf_model.specs.Prelude.{CostIsWithinCeiling, HeaderTable, ListingStyle, SuffixesAreWithinMost, TableHeaders, after_header as asked_after, by_sections, by_segments, ceiling, cost_where, e_phnum, e_shnum, e_shstrndx, early_checks, either_kind, entries_kind, file_sections, file_segments, follows_dynamic, gnu_relocations, has, has_tables, header_checks, header_field, is_loadable, is_symbol_table, kinds_cost, known_parts, listing_cost, located_cost, located_count, name_bytes, needs_segments, pass, relative_relocations, relocation_type, relocations, relocations_with_versions, section_kinds, sections_cost, segment_kinds, segments_cost, sh_link, sh_size, sh_type, style_ceiling, suffixed_symbols, suffixes_most, sum_over, symbols, table_checks_of, table_cost, table_headers, table_most, tables_ceiling, tables_cost, viewed}
 use Rattle.elf_model.specs.TableKinds.{relocations_kind}
 use Rattle.elf_model.proofs.CheckSteps.{all_pass, pass-behind}
 use Rattle.elf_model.proofs.KindLists.{section_kinds-le, segment_kinds-le}
@@ -190,11 +190,14 @@ tables_ceiling-is size headers style = by_cases style.versions
         omega (arith, same)
 
 -- what dynamic entries locate is within its own, if the style follows them
-located_within : (none follows asked : Bool) (most : ℕ) → cost_where (none && (follows && asked)) most ≤ cost_where follows most
-located_within true true true most = omega arith
-located_within true true false most = omega arith
-located_within true false asked most = omega arith
-located_within false follows asked most = omega arith
+located_within : (none follows symbols relocations : Bool) (most : ℕ)
+    → cost_where (none && (follows && (symbols || relocations))) (located_count symbols relocations * most) ≤ cost_where follows (located_count true true * most)
+located_within true true true true most = omega arith
+located_within true true true false most = omega arith
+located_within true true false true most = omega arith
+located_within true true false false most = omega arith
+located_within true false symbols relocations most = omega arith
+located_within false follows symbols relocations most = omega arith
 
 -- the same of two conditions
 both_within : (passes : Bool) (one other a b : ℕ) → cost_where passes one ≤ a → other ≤ b → cost_where passes (one + other) ≤ a + b
@@ -209,8 +212,7 @@ after_within file headers style parts =
     let tables : ℕ = sections_cost file style.cap parts + segments_cost file style parts + tables_cost file style parts in
     let within = cost_where-within passes tables (headers * (120 + name_bytes style.cap + most_bound style.versions (length file) style.cap))
     (λ h. after_header file style parts headers (e_shnum file == 0) refl (and-second (has_tables parts) (is_loadable file headers) h)) in
-    let most : ℕ = located_most (length file) style.cap in
-    let located = located_within (e_shnum file == 0) (follows_dynamic style) (has parts 16) most in
+    let located = located_within (e_shnum file == 0) (follows_dynamic style) (has parts 8) (has parts 16) (table_most (length file) style.cap) in
     let both = both_within passes tables (located_cost file style parts) _ _ within located in
     let order : sections_cost file style.cap parts + segments_cost file style parts + located_cost file style parts + tables_cost file style parts ≡ tables + located_cost file style parts = omega arith in
     let same = ap (cost_where passes) order in

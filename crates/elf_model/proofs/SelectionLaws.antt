@@ -1,6 +1,6 @@
 -- The first fault of a listing, whatever rows are shown.
 use Rattle.std.proofs.Common.{◌≡◌, ℕ, ◌+◌, ◌*◌, ◌%◌, ◌^◌, ◌==◌, ◌/◌, ◌&&◌, not, nat_lt, if◌then◌else◌, Bool, true, false, List, [], ◌∷◌, ◌++◌, Option, None, Some, Result, Ok, Err}
-use Rattle.elf_model.specs.Prelude.{EveryRow, Fault, HEADER, HeaderTable, LAST_ADDRESS, LinePrefix, ListingItem, ListingStyle, LocatedSymbols, LocatedTable, NoSuffix, NoteRow, RELR_BITS, RowFilter, SECTIONS, SEGMENTS, TableKind, VERSYM_SIZE, VisitedRecord, all_checks, bit_row, bitmap_base, chosen_row, d_tag, d_un, dynamic_at, dynamic_count, dynamic_prefix, dynamic_relocations, dynamic_row, dynamic_segment_index, e_machine, e_phnum, e_shnum, each, either_kind, entries_rows, entry_at, entry_count, fault_of, first_segment_relocations, form_rows, has, has_symbols, has_tables, header_checks, header_row, is_bitmap, is_string_tag, kinds_rows, known_parts, linked_at, listing, load_checks, load_items, loaded_items, located_items, located_row, located_rows, located_symbols, located_table, locates_relocations, mapped_strings, named_among, name_index, named_at, no_name, note_align, note_row, note_rows, notes_rows, number_in, numbered_row, overlap_checks, p_align, p_filesz, p_offset, padded_size, place_of_dynamic, place_of_header, place_of_record, place_of_relr, place_of_section, place_of_segment, place_of_version, placed_choice, r_sym, refused_row, relative_relocations, relocation_choice, relocation_prefix, relocation_row, relocation_row_with_version, relocation_size, relocation_table_rows, relocations, relocations_with_versions, relr_prefix, relr_row, relr_rows, relr_rows_at, relr_word, section_at, section_dynamic, section_name, section_notes, section_prefix, section_row, section_versions, segment_at, segment_dynamic, segment_notes, segment_relocations, segment_dynamic_checks, segment_row, sh_addralign, sh_link, sh_offset, sh_size, shown as shown_name, shows_place, slice, st_name, strings_of, suffixed_relocation_rows, suffixed_symbol_rows, suffixed_symbols, suffixes_refusal, symbol_choice, symbol_named, symbol_prefix, symbol_row, symbol_row_with_version, symbol_suffix, symbol_version_prefix, symbol_version_row, symbol_version_rows, symbol_versions, symbols, table_headers, table_items, table_rows, value_name, version_definitions, version_named, version_needs, version_prefix, version_row, version_strings, versioned_count, versioned_symbols, versions_rows, versym, view_checks, viewed, walk_rows, walked, word_rows}
+use Rattle.elf_model.specs.Prelude.{DynamicSymbols, EveryRow, Fault, HEADER, HashStyle, HeaderTable, LAST_ADDRESS, LinePrefix, ListingItem, ListingStyle, LocatedSymbols, LocatedTable, NoSuffix, NoteRow, RELOCS, RELR_BITS, RowFilter, SECTIONS, SEGMENTS, SYMBOLS, TableKind, VERSYM_SIZE, VisitedRecord, all_checks, bit_row, bitmap_base, chosen_row, class_choice, counted_rows, d_tag, d_un, dynamic_at, dynamic_count, dynamic_prefix, dynamic_row, dynamic_segment_index, dynamic_tables, e_machine, e_phnum, e_shnum, each, either_kind, entries_rows, entry_at, entry_count, fault_of, first_segment_tables, form_rows, has, has_symbols, has_tables, hash_row, hashed_symbol_row, hashed_symbol_rows, header_checks, header_row, is_bitmap, is_string_tag, kinds_rows, known_parts, linked_at, listing, load_checks, load_items, loaded_items, located_items, located_row, located_rows, located_symbols, located_table, locates_tables, mapped_strings, name_index, named_among, named_at, no_name, note_align, note_row, note_rows, notes_rows, number_in, numbered_row, overlap_checks, p_align, p_filesz, p_offset, padded_size, place_of_dynamic, place_of_header, place_of_record, place_of_relr, place_of_section, place_of_segment, place_of_version, placed_choice, r_sym, refused_row, relative_relocations, relocation_choice, relocation_prefix, relocation_row, relocation_row_with_version, relocation_size, relocation_table_rows, relocations, relocations_with_versions, relr_prefix, relr_row, relr_rows, relr_rows_at, relr_word, rows_by_hash, section_at, section_dynamic, section_name, section_notes, section_prefix, section_row, section_versions, segment_at, segment_checks, segment_dynamic, segment_dynamic_checks, segment_lookup_tables, segment_notes, segment_relocations, segment_row, segment_symbol_rows, segment_tables, sh_addralign, sh_link, sh_offset, sh_size, shown as shown_name, shows_place, slice, st_name, strings_of, suffixed_relocation_rows, suffixed_symbol_rows, suffixed_symbols, suffixes_refusal, symbol_choice, symbol_named, symbol_offset, symbol_prefix, symbol_row, symbol_row_with_version, symbol_suffix, symbol_version_prefix, symbol_version_row, symbol_version_rows, symbol_versions, symbols, symbols_hashed, table_headers, table_items, table_rows, value_name, version_definitions, version_named, version_needs, version_prefix, version_row, version_strings, versioned_count, versioned_symbols, versions_rows, versym, view_checks, viewed, walk_rows, walked, word_rows}
 use Rattle.elf_model.specs.TableKinds.{dynamic_rows}
 use Rattle.elf_model.specs.VersionRows.{visited_rows}
 use Rattle.elf_model.specs.Versions.{flags_word, hash_word, number_word}
@@ -335,14 +335,38 @@ module _ (file : List ℕ) (style : ListingStyle) (rows : RowFilter) (filter : S
   four_same segment at =
       appended (appended (appended (one_table_same segment at RelrTable) (one_table_same segment at Rel)) (one_table_same segment at Rela)) (one_table_same segment at Jmprel)
 
-  first_same : (segment : Option ℕ) → SameFault (first_segment_relocations file selected segment) (first_segment_relocations file style segment)
-  unfolding first_segment_relocations
-  first_same None = alike
-  first_same (Some segment) = guarded_fault (segment_dynamic_checks file (segment_at file segment)) (four_same segment (segment_at file segment))
+  hashed_row_same : (symbols : DynamicSymbols) (index : ℕ) → SameFault (hashed_symbol_row file selected symbols index) (hashed_symbol_row file style symbols index)
+  unfolding hashed_symbol_row
+  hashed_row_same symbols index =
+      let symbol_at : ℕ = symbol_offset symbols index in
+      chosen_fault (class_choice file selected true symbol_at) (class_choice file style true symbol_at) (symbol_prefix style.format style.gnu (e_machine file) file symbol_at symbols.index index) symbol_at
+      (shown_name symbols.strings (st_name file symbol_at) style.cap)
 
-  relocations_located_same : SameFault (dynamic_relocations file selected) (dynamic_relocations file style)
-  unfolding dynamic_relocations
-  relocations_located_same = guarded_fault (overlap_checks file) (first_same (dynamic_segment_index file))
+  counted_same : (symbols : DynamicSymbols) (count : Result ℕ Refusal) → SameFault (counted_rows file selected symbols count) (counted_rows file style symbols count)
+  unfolding counted_rows
+  counted_same symbols (Err refusal) = alike
+  counted_same symbols (Ok count) = each_fault (hashed_symbol_row file selected symbols) (hashed_symbol_row file style symbols) (hashed_row_same symbols) 0 count
+
+  by_hash_same : (segment at : ℕ) (found : Option (HashStyle × ℕ)) → SameFault (rows_by_hash file selected segment at found) (rows_by_hash file style segment at found)
+  unfolding rows_by_hash hashed_symbol_rows
+  by_hash_same segment at None = alike
+  by_hash_same segment at (Some found) =
+      let tables = segment_lookup_tables file found.0 segment at found.1 in
+      guarded_fault (segment_checks file found.0 at found.1) (counted_same tables.symbols (symbols_hashed file tables))
+
+  segment_tables_same : (parts segment at : ℕ) → SameFault (segment_tables file selected parts segment at) (segment_tables file style parts segment at)
+  unfolding segment_tables segment_symbol_rows
+  segment_tables_same parts segment at =
+      appended (where_fault (has parts SYMBOLS) (by_hash_same segment at (hash_row file at))) (where_fault (has parts RELOCS) (four_same segment at))
+
+  first_same : (parts : ℕ) (segment : Option ℕ) → SameFault (first_segment_tables file selected parts segment) (first_segment_tables file style parts segment)
+  unfolding first_segment_tables
+  first_same parts None = alike
+  first_same parts (Some segment) = guarded_fault (segment_dynamic_checks file (segment_at file segment)) (segment_tables_same parts segment (segment_at file segment))
+
+  tables_located_same : (parts : ℕ) → SameFault (dynamic_tables file selected parts) (dynamic_tables file style parts)
+  unfolding dynamic_tables
+  tables_located_same parts = guarded_fault (overlap_checks file) (first_same parts (dynamic_segment_index file))
 
   if_same : (asked : Bool) → {a b : List ListingItem} → SameFault a b → SameFault (if asked then a else []) (if asked then b else [])
   if_same true items = items
@@ -350,7 +374,7 @@ module _ (file : List ℕ) (style : ListingStyle) (rows : RowFilter) (filter : S
 
   items_located_same : (parts : ℕ) → SameFault (located_items file selected parts) (located_items file style parts)
   unfolding located_items
-  items_located_same parts = if_same (locates_relocations file style parts) relocations_located_same
+  items_located_same parts = if_same (locates_tables file style parts) (tables_located_same parts)
 
   header_same : SameFault (header_row selected file) (header_row style file)
   header_same = line_fault (shows_place place place_of_header) (shows_place style.place place_of_header) _

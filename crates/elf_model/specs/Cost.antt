@@ -1,10 +1,10 @@
 -- How many bytes a listing reads at most, and its upper bound.
-use Rattle.std.specs.Prelude.{ℕ, suc, zero, ◌+◌, ◌*◌, ◌/◌, ◌==◌, ◌&&◌, ◌||◌, not, if◌then◌else◌, Bool, List, [], ◌∷◌, length}
+use Rattle.std.specs.Prelude.{ℕ, suc, zero, ◌+◌, ◌*◌, ◌/◌, ◌==◌, ◌&&◌, ◌||◌, not, if◌then◌else◌, Bool, true, List, [], ◌∷◌, length}
 use Rattle.elf_model.specs.Records.{FILE_HEADER_SIZE, SECTION_HEADER_SIZE, PROGRAM_HEADER_SIZE, e_shnum, e_phnum, e_shstrndx}
 use Rattle.elf_model.specs.Names.{name_bytes}
 use Rattle.elf_model.specs.Checks.{pass, before_headers}
 use Rattle.elf_model.specs.HeaderTables.{HeaderTable, TableKind}
-use Rattle.elf_model.specs.Listing.{has, has_tables, known_parts, SECTIONS, SEGMENTS, RELOCS, NOTES, DYNAMIC}
+use Rattle.elf_model.specs.Listing.{has, has_tables, known_parts, SECTIONS, SEGMENTS, SYMBOLS, RELOCS, NOTES, DYNAMIC}
 use Rattle.elf_model.specs.Style.{ListingStyle, follows_dynamic, standard, viewed}
 use Rattle.elf_model.specs.TableKinds.{table_headers}
 use Rattle.elf_model.specs.Tables.{REL_SIZE}
@@ -43,10 +43,14 @@ sections_cost file cap parts =
     SECTION_HEADER_SIZE * e_shnum file
     + cost_where (has parts SECTIONS && not (e_shstrndx file == 0)) (e_shnum file * name_bytes cap)
 
+-- parts have what dynamic entries locate: symbols and relocations
+abbrev pub has_located : ℕ → Bool
+has_located parts = has parts SYMBOLS || has parts RELOCS
+
 -- parts of a listing of a style are found by the program headers: notes and dynamic entries, and what
 -- these locate if the style follows them
 abbrev pub lies_in_segments : ListingStyle → ℕ → Bool
-lies_in_segments style parts = has parts NOTES || (has parts DYNAMIC || (follows_dynamic style && has parts RELOCS))
+lies_in_segments style parts = has parts NOTES || (has parts DYNAMIC || (follows_dynamic style && has_located parts))
 
 -- the program headers are read: if they are listed, or if they describe tables that are
 abbrev pub needs_segments : List ℕ → ListingStyle → ℕ → Bool
@@ -56,17 +60,28 @@ needs_segments file style parts = has parts SEGMENTS || (e_shnum file == 0 && li
 unfoldable pub segments_cost : List ℕ → ListingStyle → ℕ → ℕ
 segments_cost file style parts = cost_where (needs_segments file style parts) (PROGRAM_HEADER_SIZE * e_phnum file)
 
--- a file's relocations are found by its dynamic entries
-abbrev pub locates_relocations : List ℕ → ListingStyle → ℕ → Bool
-locates_relocations file style parts = e_shnum file == 0 && (follows_dynamic style && has parts RELOCS)
+-- what a listing shows of a file is found by its dynamic entries
+abbrev pub locates_tables : List ℕ → ListingStyle → ℕ → Bool
+locates_tables file style parts = e_shnum file == 0 && (follows_dynamic style && has_located parts)
 
--- the upper bound of what they read in a file of this many bytes: the dynamic entries and four tables,
--- each with a symbol and its name for each 16 bytes
+-- the upper bound of what a table that dynamic entries locate reads in a file of this many bytes: a
+-- symbol and its name for each 16 bytes
+abbrev pub table_most : (size cap : ℕ) → ℕ
+table_most size cap = size + size / 16 * (32 + name_bytes cap)
+
+-- how many tables are read at most, if the parts have symbols and relocations: that of the dynamic
+-- entries; the hash table and the symbols; and four tables of relocations
+abbrev pub located_count : (symbols relocations : Bool) → ℕ
+located_count symbols relocations = 1 + cost_where symbols 2 + cost_where relocations 4
+
+-- the upper bound of all of them
 abbrev pub located_most : (size cap : ℕ) → ℕ
-located_most size cap = 5 * (size + size / 16 * (32 + name_bytes cap))
+located_most size cap = located_count true true * table_most size cap
 
 unfoldable pub located_cost : List ℕ → ListingStyle → ℕ → ℕ
-located_cost file style parts = cost_where (locates_relocations file style parts) (located_most (length file) style.cap)
+located_cost file style parts =
+    cost_where (locates_tables file style parts)
+    (located_count (has parts SYMBOLS) (has parts RELOCS) * table_most (length file) style.cap)
 
 -- the tables of all headers that describe tables, if the parts have them
 unfoldable pub tables_cost : List ℕ → ListingStyle → ℕ → ℕ

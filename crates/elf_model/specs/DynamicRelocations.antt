@@ -3,17 +3,16 @@
 -- entry is at an offset of the file, and so is the program header of the entries.
 use Rattle.std.specs.Prelude.{ℕ, ◌+◌, ◌*◌, ◌/◌, ◌%◌, ◌==◌, nat_lt, not, if◌then◌else◌, Bool, true, false, List, [], ◌∷◌, ◌++◌, Option, None, Some, Result, Ok, Err}
 use Rattle.elf_model.specs.Checks.{refuse, first_refusal}
-use Rattle.elf_model.specs.Listing.{ListingItem, Fault, each, guarded}
-use Rattle.elf_model.specs.LoaderScope.{dynamic_segment_index, rest_checks, rest_place, rest_size, tagged_row}
+use Rattle.elf_model.specs.Listing.{ListingItem, Fault, each}
+use Rattle.elf_model.specs.LoaderScope.{rest_checks, rest_place, rest_size, tagged_row}
 use Rattle.elf_model.specs.Mapped.{mapped_bytes, mapped_checks, mapped_place}
 use Rattle.elf_model.specs.Names.{DisplayedName, shown}
 use Rattle.elf_model.specs.Numbers.{DT_JMPREL, DT_PLTREL, DT_PLTRELSZ, DT_REL, DT_RELA, DT_RELAENT, DT_RELASZ, DT_RELENT, DT_RELR, DT_RELRENT, DT_RELRSZ, DT_RELSZ, DT_STRSZ, DT_STRTAB, DT_SYMTAB}
-use Rattle.elf_model.specs.Overlaps.{overlap_checks}
-use Rattle.elf_model.specs.Records.{d_un, r_sym, segment_at, st_name}
+use Rattle.elf_model.specs.Records.{d_un, r_sym, st_name}
 use Rattle.elf_model.specs.RelativeRelocations.{relr_rows_at}
 use Rattle.elf_model.specs.Rows.{entry_row, no_name}
 use Rattle.elf_model.specs.Style.{ListingStyle}
-use Rattle.elf_model.specs.Tables.{RELA_SIZE, RELR_SIZE, REL_SIZE, SYMBOL_SIZE, relocation_size, segment_dynamic_checks}
+use Rattle.elf_model.specs.Tables.{RELA_SIZE, RELR_SIZE, REL_SIZE, SYMBOL_SIZE, relocation_size}
 use Rattle.elf_model.specs.declared.causes.Cause.{Cause}
 use Rattle.elf_model.specs.declared.causes.Cause.TheVariants.{BadLink, EntrySize, SizeNotWhole, SymbolIndex, Unmapped}
 use Rattle.elf_model.specs.declared.causes.Refusal.{Refusal}
@@ -169,21 +168,11 @@ unfoldable pub relocation_table_rows : List ℕ → ListingStyle → (segment at
 relocation_table_rows file style segment at table =
     located_rows file style segment (located_table file at table) (located_symbols file at)
 
--- those of all four, in the order in which a loader applies them
+-- THE RELOCATIONS THAT DYNAMIC ENTRIES LOCATE: those of all four, in the order in which a loader
+-- applies them
 unfoldable pub segment_relocations : List ℕ → ListingStyle → (segment at : ℕ) → List ListingItem
 segment_relocations file style segment at =
     relocation_table_rows file style segment at Relr
     ++ relocation_table_rows file style segment at Rel
     ++ relocation_table_rows file style segment at Rela
     ++ relocation_table_rows file style segment at Jmprel
-
--- those of the first segment of dynamic entries, if there is one
-unfoldable pub first_segment_relocations : List ℕ → ListingStyle → Option ℕ → List ListingItem
-first_segment_relocations file style None = []
-first_segment_relocations file style (Some segment) =
-    let at = segment_at file segment in guarded (segment_dynamic_checks file at) (segment_relocations file style segment at)
-
--- THE RELOCATIONS THAT A LOADER FINDS: no LOAD segment overlaps another, since an address is searched
--- for in the first that has it
-unfoldable pub dynamic_relocations : List ℕ → ListingStyle → List ListingItem
-dynamic_relocations file style = guarded (overlap_checks file) (first_segment_relocations file style (dynamic_segment_index file))

@@ -79,6 +79,8 @@ pub mod SysvWalkLaws
 pub mod Loader
 pub mod LoaderScope
 pub mod DynamicRelocations
+pub mod HashedSymbols
+pub mod DynamicTables
 pub mod LoaderFind
 pub mod LoaderAnswer
 pub mod LoaderLaws

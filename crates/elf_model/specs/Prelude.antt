@@ -30,14 +30,15 @@ pub use Rattle.elf_model.specs.Checks.{Check, HeaderCounts, before_headers, coun
 pub use Rattle.elf_model.specs.Choice.{EveryRow, NoSuffix, RowFilter, RowsOf, Suffix, Suffixed, chooses, is_named, is_whole, suits, wanted_text}
 pub use Rattle.elf_model.specs.ChoiceLaws.{CutNamesAreNone, NamesAloneAreChosen, NamesAreChosen, NamesFitEveryVersion, OrderChoosesNothing, VersionsAreChosen, has_sign, has_sign_first, has_version}
 unfoldable pub use Rattle.elf_model.specs.Choice.{most_bytes}
-pub use Rattle.elf_model.specs.Cost.{after_header, cost, cost_where, lies_in_segments, located_most, locates_relocations, needs_segments, suffixes_most}
+pub use Rattle.elf_model.specs.Cost.{after_header, cost, cost_where, has_located, lies_in_segments, located_most, located_count, locates_tables, needs_segments, suffixes_most, table_most}
 pub use Rattle.elf_model.specs.CostLaws.{AnyRowsAreWithinCeiling, AnySegmentsAreWithinCeiling, CostIsWithinCeiling, LastCostIsAdded, PlacesDecideNothing, RowsCostWhatTheFileCosts, SegmentsCostWhatTheFileCosts, SumsGrow, TablesCostKindByKind}
 unfoldable pub use Rattle.elf_model.specs.CostLaws.{kind_by_kind}
 unfoldable pub use Rattle.elf_model.specs.Cost.{ceiling, is_loadable, kinds_cost, listing_cost, located_cost, sections_cost, segments_cost, style_ceiling, sum_over, table_cost, tables_ceiling, tables_cost}
 pub use Rattle.elf_model.specs.Dynamic.{CountedIsListed, IsFirstValue, IsListed, ListedIsCounted, NoValueHasNoTag, ValueIsFirst, dynamic_at, listed_value}
 unfoldable pub use Rattle.elf_model.specs.Dynamic.{dynamic_count, dynamic_value}
 pub use Rattle.elf_model.specs.DynamicRelocations.{LocatedSymbols, LocatedTable, TableTags, form_by, form_if, form_size, tags_of}
-unfoldable pub use Rattle.elf_model.specs.DynamicRelocations.{dynamic_relocations, entries_rows, first_segment_relocations, form_rows, located_row, located_rows, located_symbols, located_table, named_among, relocation_table_rows, segment_relocations, symbols_by, symbols_mapped, table_by, table_mapped, table_of_rows}
+unfoldable pub use Rattle.elf_model.specs.DynamicRelocations.{entries_rows, form_rows, located_row, located_rows, located_symbols, located_table, named_among, relocation_table_rows, segment_relocations, symbols_by, symbols_mapped, table_by, table_mapped, table_of_rows}
+unfoldable pub use Rattle.elf_model.specs.DynamicTables.{dynamic_tables, first_segment_tables, segment_tables}
 pub use Rattle.elf_model.specs.Explain.{ITEM_NAME_SIZE, MissingEntry, lack_with}
 pub use Rattle.elf_model.specs.ExplainLine.{explanation, item_text, where_named}
 unfoldable pub use Rattle.elf_model.specs.ExplainLine.{entry_item_text, entry_text, help_text, items_text, missing_line, place_text, type_prefix}
@@ -65,6 +66,7 @@ unfoldable pub use Rattle.elf_model.specs.GnuHash.{filter_may_contain, gnu_bucke
 pub use Rattle.elf_model.specs.Hash.{Absent, ChainEnd, Found, IsEndless, IsFirst, IsLookup, Lookup, LookupEnd, Nameless, NoIndex, Outcome, Wanted, chain_at, cycle, end_of_name, hash_byte, is_index, lookup_by, lookup_word, nchain, next_in_chain, refused_after, symbol_at, symbol_count, sysv_chain_at, sysv_nbucket, sysv_nchain}
 pub use Rattle.elf_model.specs.HashLaws.{ComparedWithinChains, CycleExactly, CycleIsEndless, GoesOn, IsBounded, LongWalkNeverEnds, LongWalkRepeats, LookupAnswers, LookupIsBounded, LookupIsOne, RepeatNeverEnds, Repeats}
 unfoldable pub use Rattle.elf_model.specs.Hash.{bucket_of, end_among, end_at_word, looked_up, lookup_at, lookup_end, same_symbol, sysv_hash, walk_word, word_at}
+unfoldable pub use Rattle.elf_model.specs.HashedSymbols.{counted_rows, hashed_symbol_row, hashed_symbol_rows, rows_by_hash, segment_symbol_rows}
 pub use Rattle.elf_model.specs.HeaderTables.{HeaderTable, TableKind, file_sections, file_segments, first_typed, header_field, held_headers}
 pub use Rattle.elf_model.specs.Interpreters.{interpreter_line}
 unfoldable pub use Rattle.elf_model.specs.Interpreters.{interpreter_at, interpreter_by_segments, interpreter_front, interpreter_of, interpreter_state, is_interpreter, loaded_interpreter}
@@ -132,7 +134,7 @@ unfoldable pub use Rattle.elf_model.specs.Report.{kinds_rows, listing, load_item
 pub use Rattle.elf_model.specs.RelativeRelocations.{LAST_ADDRESS, RELR_BITS, base_after, is_bitmap, relr_rows_at}
 unfoldable pub use Rattle.elf_model.specs.RelativeRelocations.{bit_row, bitmap_base, relr_row, relr_rows, word_rows}
 pub use Rattle.elf_model.specs.RowPlaces.{is_address, is_in_memory_type, place_of_dynamic, place_of_header, place_of_record, place_of_relocation, place_of_relr, place_of_section, place_of_segment, place_of_symbol}
-pub use Rattle.elf_model.specs.Rows.{chosen_row, entry_row, is_string_tag, named_row, no_name, placed_choice, refused_row, relocation_choice, symbol_choice, value_name}
+pub use Rattle.elf_model.specs.Rows.{chosen_row, class_choice, entry_row, is_string_tag, named_row, no_name, placed_choice, refused_row, relocation_choice, symbol_choice, value_name}
 unfoldable pub use Rattle.elf_model.specs.Rows.{dynamic_row, note_row, notes_rows, relocation_row, section_name, section_row, segment_row, symbol_named, symbol_row, walk_rows}
 pub use Rattle.elf_model.specs.Searches.{NulFound}
 pub use Rattle.elf_model.specs.ShownNames.{shown_as}

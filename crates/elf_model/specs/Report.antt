@@ -2,8 +2,8 @@
 use Rattle.std.specs.Prelude.{ℕ, ◌&&◌, true, false, List, [], ◌∷◌, ◌++◌, Option, if◌then◌else◌}
 use Rattle.elf_model.specs.Records.{e_shnum, e_phnum}
 use Rattle.elf_model.specs.Checks.{Check, header_checks, load_checks, pass}
-use Rattle.elf_model.specs.Cost.{locates_relocations, needs_segments}
-use Rattle.elf_model.specs.DynamicRelocations.{dynamic_relocations}
+use Rattle.elf_model.specs.Cost.{locates_tables, needs_segments}
+use Rattle.elf_model.specs.DynamicTables.{dynamic_tables}
 use Rattle.elf_model.specs.FaultRows.{fault_row}
 use Rattle.elf_model.specs.HeaderTables.{HeaderTable, TableKind}
 use Rattle.elf_model.specs.Lines.{refusal_line_in}
@@ -32,7 +32,7 @@ kinds_rows (kind ∷ kinds) headers file style parts =
 
 -- what dynamic entries locate, in a file without section headers, if a style follows them
 unfoldable pub located_items : List ℕ → ListingStyle → ℕ → List ListingItem
-located_items file style parts = if locates_relocations file style parts then dynamic_relocations file style else []
+located_items file style parts = if locates_tables file style parts then dynamic_tables file style parts else []
 
 -- the section headers, the program headers, what dynamic entries locate, and the tables kind by kind,
 -- if the parts have them

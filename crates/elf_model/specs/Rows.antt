@@ -66,14 +66,17 @@ segment_row file style index =
     let at = segment_at file index in
     placed_line style (place_of_segment file at) (segment_line style.format style.gnu file at index)
 
--- the rows that are shown of the symbol at an offset, of the symbol table whose section's header is
--- at another
-abbrev pub symbol_choice : List ℕ → ListingStyle → (at symbol_at : ℕ) → RowFilter
-symbol_choice file style at symbol_at =
+-- the rows that are shown of the symbol at an offset, which is a dynamic symbol or not
+abbrev pub class_choice : List ℕ → ListingStyle → (is_dynamic : Bool) → (symbol_at : ℕ) → RowFilter
+class_choice file style is_dynamic symbol_at =
     narrowed
-    (shows_symbol style.symbols (not (st_shndx file symbol_at == SHN_UNDEF)) (sh_type file at == SHT_DYNSYM)
+    (shows_symbol style.symbols (not (st_shndx file symbol_at == SHN_UNDEF)) is_dynamic
     && shows_place style.place (place_of_symbol file symbol_at))
     style.choice
+
+-- those of the symbol table whose section's header is at another offset
+abbrev pub symbol_choice : List ℕ → ListingStyle → (at symbol_at : ℕ) → RowFilter
+symbol_choice file style at symbol_at = class_choice file style (sh_type file at == SHT_DYNSYM) symbol_at
 
 -- the row of a symbol of the symbol table that a section header describes
 unfoldable pub symbol_row : List ℕ → ListingStyle → ℕ → ℕ → ℕ → List ListingItem
