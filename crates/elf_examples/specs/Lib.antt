@@ -52,6 +52,7 @@ pub mod ListedVersions
 pub mod ListedChoices
 pub mod ListedRelative
 pub mod ListedLocated
+pub mod ListedHashed
 pub mod ExamplesImage
 pub mod ExamplesImageTypes
 pub mod ListedSuffixes

@@ -213,7 +213,7 @@ abbrev pub VersionsCost : Type 0
 VersionsCost =
     (parts_cost GNU_ALL versioned_library ≡ 3244)
     × (parts_cost VERSIONS versioned_library ≡ 1644)
-    × (parts_cost GNU_ALL versioned_without_sections ≡ 1328 + 5 * (752 + 47 * (32 + 64)))
+    × (parts_cost GNU_ALL versioned_without_sections ≡ 1328 + 7 * (752 + 47 * (32 + 64)))
     × (parts_cost VERSIONS versioned_without_sections ≡ 64)
     × (parts_cost VERSIONS (with_bytes 0x410 (little 8 8) versioned_library) ≡ 576 + 936)
     × (parts_cost VERSIONS (with_bytes 0x410 (little 8 16) versioned_library) ≡ 1644)

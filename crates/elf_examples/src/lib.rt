@@ -25,6 +25,7 @@ mod function_rows;
 mod gnu_hash_rows;
 mod gnu_rows;
 mod hash_rows;
+mod hashed_rows;
 mod image_rows;
 mod image_type_rows;
 mod interpreter_rows;
