@@ -108,4 +108,4 @@ CutMembersCost =
 abbrev pub CeilingsWithVersions : Type 0
 CeilingsWithVersions =
     archive_ceiling 59 1 (record { cap = 63; gnu = true; by_segments = false; format = Columns; choice = EveryRow; symbols = every_symbol; place = every_place; versions = true })
-    ≡ 8 + (64 + (184 + 59 + 3 * 96) + (3 * 66 + 2 * 28 + 3 * 16) + 5 * (59 + 3 * 96))
+    ≡ 8 + (64 + (184 + 59 + 3 * 96) + (3 * 66 + 2 * 28 + 3 * 16) + 7 * (59 + 3 * 96))

@@ -77,7 +77,8 @@ OverlapsBySegmentsAlone =
     ++ codes "! 0000000000000078 load-overlap\n")
     × (report_of Columns (listing covered 8 by_segments NOTES) ≡ codes "! 0000000000000078 load-overlap\n")
     × (report_of Columns (listing covered 8 by_segments DYNAMIC) ≡ codes "! 0000000000000078 load-overlap\n")
-    × (report_of Columns (listing covered 8 by_segments (SECTIONS + SYMBOLS)) ≡ [])
+    × (report_of Columns (listing covered 8 by_segments SYMBOLS) ≡ codes "! 0000000000000078 load-overlap\n")
+    × (report_of Columns (listing covered 8 by_segments SECTIONS) ≡ [])
     × (report_of Columns (listing (object_with 0xb0 1 2 (load 0x400000 0x1000 ++ load 0x400800 0x10 ++ section_header 0 0 0 0 0 0 0 0)) 8 by_segments SEGMENTS)
     ≡ codes "! 0000000000000078 load-overlap\n")
     × (report covered 8 63 SEGMENTS ≡ covered_lines)
@@ -88,4 +89,4 @@ abbrev pub OverlapsAfterTheLoad : Type 0
 OverlapsAfterTheLoad =
     (report_of Columns (listing covered 1 by_segments SEGMENTS) ≡ codes "! 0000000000000038 too-many-headers\n")
     × (listing_cost covered 8 by_segments SEGMENTS ≡ 64 + 112)
-    × (listing_cost covered 8 by_segments SYMBOLS ≡ 64)
+    × (listing_cost covered 8 by_segments SECTIONS ≡ 64)

@@ -347,6 +347,6 @@ SegmentsDespiteSections =
     ++ needed_lines)
     × (report hidden 3 63 DYNAMIC ≡ codes "! 000000000000003a entry-size\n")
     × (report_of Columns (listing hidden 1 by_segments DYNAMIC) ≡ codes "! 0000000000000038 too-many-headers\n")
-    × (listing_cost hidden 2 by_segments ALL ≡ 560 + 5 * (251 + 15 * (32 + 64)))
+    × (listing_cost hidden 2 by_segments ALL ≡ 560 + 7 * (251 + 15 * (32 + 64)))
     × (report_of Columns (listing library_without_sections 2 by_segments ALL) ≡ report library_without_sections 2 63 ALL)
     × (report_of Columns (listing one_symbol_table 3 by_segments (SYMBOLS + DYNAMIC)) ≡ [])

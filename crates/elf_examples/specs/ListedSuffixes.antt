@@ -201,4 +201,4 @@ SuffixesAreCounted =
 abbrev pub CeilingWithVersions : Type 0
 CeilingWithVersions =
     style_ceiling 120 1 (with_versions 63 Columns EveryRow)
-    ≡ 64 + (64 + 56 + 64 + 120 + 7 * (32 + 64)) + (7 * (2 + 64) + 6 * 28 + 7 * 16) + 5 * (120 + 7 * (32 + 64))
+    ≡ 64 + (64 + 56 + 64 + 120 + 7 * (32 + 64)) + (7 * (2 + 64) + 6 * 28 + 7 * 16) + 7 * (120 + 7 * (32 + 64))

@@ -190,7 +190,7 @@ tables_ceiling-is size headers style = by_cases style.versions
         omega (arith, same)
 
 -- what dynamic entries locate is within its own, if the style follows them
-located_within : (none follows symbols relocations : Bool) (most : ℕ)
+pub located_within : (none follows symbols relocations : Bool) (most : ℕ)
     → cost_where (none && (follows && (symbols || relocations))) (located_count symbols relocations * most) ≤ cost_where follows (located_count true true * most)
 located_within true true true true most = omega arith
 located_within true true true false most = omega arith
