@@ -23,6 +23,11 @@ push_default [] d (suc i) = refl
 push_default (x ∷ xs) d zero = refl
 push_default (x ∷ xs) d (suc i) = push_default xs d i
 
+-- of two entries that are gone alike, either is gone like the first
+pub either_gone : (which : Bool) (a b : KeyEntry) → b.is_gone ≡ a.is_gone → (if which then a else b).is_gone ≡ a.is_gone
+either_gone true a b same = refl
+either_gone false a b same = same
+
 -- the entries of all names are those of before if a name is entered
 entered_by : (keys : LinkKeys) (name q : List ℕ) → length keys.entries ≤ length keys.names → (place : Option ℕ) → key_in keys.names name ≡ place
     → (found : Option ℕ) → key_in keys.names q ≡ found → (same : Bool) → bytes_eq q name ≡ same → entry_named (entered_at place keys name) q ≡ entry_named keys q

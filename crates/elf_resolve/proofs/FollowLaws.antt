@@ -20,17 +20,13 @@ use Rattle.elf_model.specs.declared.link_states.SymbolRole.TheVariants as role
 use Rattle.elf_model.specs.declared.link_states.SymbolUse.{SymbolUse}
 use Rattle.elf_resolve.specs.KeyOrders.{AreUnrestricted, AskedAreKnown, IsQuiet, is_unasked}
 use Rattle.elf_resolve.specs.KeyStates.{IsOwn}
-use Rattle.elf_resolve.proofs.EntryLaws.{change_own, prepared_plain, push_default, used_state}
+use Rattle.elf_resolve.proofs.EntryLaws.{change_own, either_gone, prepared_plain, push_default, used_state}
 use Rattle.elf_resolve.proofs.KeyLaws.{references_asked}
 
 -- whether a key has been asked for after a change of its state
 abbrev asked_by : KeyState → (is_asked : Bool) → StateChange → Bool
 asked_by before is_asked (BecomesState made) = is_asked || asks_after before made
 asked_by before is_asked _ = is_asked
-
-either_gone : (which : Bool) (a b : KeyEntry) → b.is_gone ≡ a.is_gone → (if which then a else b).is_gone ≡ a.is_gone
-either_gone true a b same = refl
-either_gone false a b same = same
 
 -- ONE ENTRY FOLLOWS ANOTHER
 record Moves (before : KeyState) (was_asked : Bool) (after : KeyState) (is_asked : Bool) : Type 0 where
