@@ -42,7 +42,9 @@ def cost(content, wish):
     asked = 64 + 64 * shnum
     if "sections" in wish.parts and names:
         asked += shnum * name
-    is_located = not headers and "relocs" in wish.parts and (wish.gnu or wish.by_segments)
+    # The dynamic entries; the hash table and the symbols; four tables of relocation entries: each as large as the file.
+    located = ("symbols" in wish.parts) * 2 + ("relocs" in wish.parts) * 4
+    is_located = not headers and located and (wish.gnu or wish.by_segments)
     if "segments" in wish.parts or not headers and {"notes", "dynamic"} & set(wish.parts) or is_located:
         asked += 56 * phnum
     walks = walk_cost(headers, content, 28, 16)
@@ -54,8 +56,7 @@ def cost(content, wish):
         except Refused:
             return asked
         asked += sum(segment_cost(content, wish, segment, name) for segment in listing.segments)
-    # The dynamic entries and four tables, each as large as the file.
-    return asked + (5 * (len(content) + len(content) // 16 * (32 + name)) if is_located else 0)
+    return asked + ((1 + located) * (len(content) + len(content) // 16 * (32 + name)) if is_located else 0)
 
 
 def section_cost(content, wish, headers, index, header, name, walks):

@@ -8,7 +8,7 @@ import struct
 
 import made_archives
 from applied import Refused, load, refuse_where, strings_of, symbols_of
-from looked_up import check_overlaps
+from looked_up import Scope, check_overlaps, hashed_count
 from testing import TOP
 
 SYMTAB, RELA, DYNAMIC, NOTE, REL, DYNSYM, RELR = 2, 4, 6, 7, 9, 11, 19
@@ -176,7 +176,7 @@ class Listing:
         phoff, = struct.unpack_from("<Q", self.content, 32)
         phnum, = struct.unpack_from("<H", self.content, 56)
         self.segments = [Segment(self.content, phoff + 56 * index) for index in range(phnum)]
-        if self.wish.by_segments and {"segments", "relocs", "notes", "dynamic"} & set(self.wish.parts):
+        if self.wish.by_segments and {"segments", "symbols", "relocs", "notes", "dynamic"} & set(self.wish.parts):
             check_overlaps(self.segments)
 
     def header_row(self):
@@ -213,6 +213,8 @@ class Listing:
                 header.filesz, header.memsz, header.align))
 
     def rows_of_symbols(self):
+        if not self.headers and (self.wish.by_segments or self.wish.gnu):
+            yield from self.rows_of_hashed()
         for index, header in enumerate(self.headers):
             if header.type not in (SYMTAB, DYNSYM) or not header.size:
                 continue
@@ -221,12 +223,27 @@ class Listing:
             versions = self.versions_of(index)
             for symbol in range(header.size // 24):
                 at = header.offset + 24 * symbol
-                name, info, other, place, value, size = struct.unpack_from("<I2BH2Q", self.content, at)
-                row = Row("Y %5d %10d %016x %016x %-7s %-6s %-9s %-5s " % (
-                    index, symbol, value, size, self.named("type of a Y line", info & 15, "%7d"),
-                    self.named("binding", info >> 4, "%6d"), self.named("visibility", other & 3, "%9d"),
-                    self.named("place", place, "%5d")), name_at(self.content, strings, name, at, self.cap))
+                place, = struct.unpack_from("<H", self.content, at + 6)
+                row = self.symbol(index, symbol, at, strings)
                 yield versions.put(row, symbol, place) if versions else row
+
+    def rows_of_hashed(self):
+        """The rows of the symbols that the hash table of the dynamic entries covers."""
+        scope = Scope(self.content, self.wish.headers)
+        if scope.refusal is not None:
+            if scope.refusal.args[1] != "no-hash":
+                raise scope.refusal
+            return
+        for symbol in range(hashed_count(scope)):
+            yield self.symbol(scope.index, symbol, scope.symbols.offset + 24 * symbol, scope.strings)
+
+    def symbol(self, index, symbol, at, strings):
+        """The row of the symbol at an offset."""
+        name, info, other, place, value, size = struct.unpack_from("<I2BH2Q", self.content, at)
+        return Row("Y %5d %10d %016x %016x %-7s %-6s %-9s %-5s " % (
+            index, symbol, value, size, self.named("type of a Y line", info & 15, "%7d"),
+            self.named("binding", info >> 4, "%6d"), self.named("visibility", other & 3, "%9d"),
+            self.named("place", place, "%5d")), name_at(self.content, strings, name, at, self.cap))
 
     def rows_of_relocs(self):
         if not self.headers and (self.wish.by_segments or self.wish.gnu):

@@ -1,12 +1,14 @@
 #!/usr/bin/env python3
-"""Tests the relocation entries that a loader finds in the files of a machine, against readelf.
+"""Tests the symbols and relocation entries that a loader finds in the files of a machine, against readelf.
 
     tests/machine/located.py [--program PROGRAM] [PATH...]
 
 For each program and library below PATH (/usr/bin and /usr/lib without any) the rows of
-`elfsee show --gnu --by-segments --only relocs` are compared with those of `readelf -D -r`: offset,
-symbol's number, name, and addend. readelf has relative relocations in another place of its order; they
-are compared apart.
+`elfsee show --gnu --by-segments --only symbols` are compared with those of `readelf -D -s`: number, value,
+size, type, binding, visibility, place and name. Of a GNU hash table without a chain, which does not say how
+many symbols there are, readelf lists those before its first symbol alone: these are compared. Then the rows
+of relocation entries are compared with those of `readelf -D -r`: offset, symbol's number, name, and addend.
+readelf has relative relocations in another place of its order; they are compared apart.
 
 It needs only Python 3 and readelf. The last line is `N passed, N failed`.
 """
@@ -25,6 +27,7 @@ from testing import Counts, option_reader, program_of
 PLACES = ("/usr/bin", "/usr/lib")
 HEADER = re.compile("'(.*)' relocation section at offset")
 ADDRESS = re.compile("[0-9a-f]{16}")
+SYMBOL = re.compile(" *[0-9]+: [0-9a-f]{16} ")
 SECONDS = 300
 
 counts = Counts()
@@ -39,18 +42,41 @@ def programs_and_libraries(places):
             yield path
 
 
-def rows_of_elfsee(program, path):
-    words = [program, "show", "--gnu", "--by-segments", "--only", "relocs", "--json", path]
+def rows_of_elfsee(program, part, path):
+    words = [program, "show", "--gnu", "--by-segments", "--only", part, "--json", path]
     answer = subprocess.run(words, capture_output=True, timeout=SECONDS)
     return [json.loads(line) for line in answer.stdout.splitlines()]
 
 
+def lines_of_readelf(option, path):
+    environment = dict(os.environ, LC_ALL="C")
+    answer = subprocess.run(["readelf", "-D", option, "-W", path], capture_output=True, timeout=SECONDS, env=environment)
+    return answer.stdout.decode("latin1").splitlines()
+
+
+def same_symbol(row, line):
+    """A line of readelf has the same symbol; behind the name it has the version."""
+    index, value, size, kind, binding, visibility, place, *name = line.split()
+    others = (int(index[:-1]), int(value, 16), int(size, 0), kind, binding, visibility, place.removeprefix("[").removesuffix("]"))
+    mine = tuple(row[key] for key in ("index", "value", "size", "type", "binding", "visibility", "place"))
+    shown = name[0].partition("@")[0] if name else ""
+    return mine[:-1] + (str(mine[-1]),) == others and row["name"].partition("@")[0] == shown
+
+
+def other_symbol(program, path):
+    rows = rows_of_elfsee(program, "symbols", path)
+    if any(row["line"] != "Y" for row in rows):
+        return f"symbols are refused: {rows[-1]}"
+    lines = [line for line in lines_of_readelf("-s", path) if SYMBOL.match(line)]
+    if len(lines) != len(rows) and len(lines) > 1:
+        return f"{len(rows)} symbols, readelf has {len(lines)}"
+    return next((f"{row} and {line}" for row, line in zip(rows, lines) if not same_symbol(row, line)), "")
+
+
 def rows_of_readelf(path):
     """The addresses of relative relocations, and of all others the offset, the symbol's number and the line."""
-    environment = dict(os.environ, LC_ALL="C")
-    answer = subprocess.run(["readelf", "-D", "-r", "-W", path], capture_output=True, timeout=SECONDS, env=environment)
     relative, others, is_relative = [], [], False
-    for line in answer.stdout.decode("latin1").splitlines():
+    for line in lines_of_readelf("-r", path):
         header = HEADER.search(line)
         words = line.split()
         if header:
@@ -71,8 +97,8 @@ def same_entry(row, other):
     return addend is None or line.split()[-1] in (format(abs(addend), "x"), format(addend % 2**64, "x"), "-%x" % -addend)
 
 
-def difference(program, path):
-    rows = rows_of_elfsee(program, path)
+def other_entry(program, path):
+    rows = rows_of_elfsee(program, "relocs", path)
     relative, others = rows_of_readelf(path)
     if any(row["line"] != "R" for row in rows):
         return f"refused: {rows[-1]}"
@@ -90,7 +116,7 @@ def main():
     given = reader.parse_args()
     program = program_of(given)
     for path in programs_and_libraries(given.paths or PLACES):
-        counts.case(path, difference(program, path))
+        counts.case(path, other_symbol(program, path) or other_entry(program, path))
     sys.exit(counts.end())
 
 

@@ -178,9 +178,10 @@ static CAUSES: [Explanation; 42] = [
         text: "    In a file without section headers, or with --by-segments, a dynamic entry
     has a string, but there is no string table: there is no entry of type
     STRTAB or STRSZ, or what they name is in no program header of type LOAD.
-    The same holds in a lookup with --gnu by the program headers, if no
-    program header of type LOAD contains one of its tables. (gABI 5, Dynamic
-    Section, Program Loading)
+    The same holds for the symbols and relocation entries that dynamic entries
+    locate, and in a lookup with --gnu by the program headers, if no program
+    header of type LOAD contains one of its tables. (gABI 5, Dynamic Section,
+    Program Loading)
     What to do: the dynamic table names an address that is not in the file:
     the file was cut, or is packed.
 ",

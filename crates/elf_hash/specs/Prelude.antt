@@ -7,6 +7,7 @@ pub use Rattle.elf_hash.specs.Finding.{FindsScope, scope_cost, scope_loaded, seg
 pub use Rattle.elf_hash.specs.HashSections.{min_hash_bytes}
 pub use Rattle.elf_hash.specs.HashStyles.{hash_style_of}
 pub use Rattle.elf_hash.specs.Loading.{LoadsSegments, segments_load_cost}
+pub use Rattle.elf_hash.specs.Headers.{HasHeader}
 pub use Rattle.elf_hash.specs.LookupTablesFound.{FindsLookupTables, IsLookupTables, LookupTablesInBounds}
 pub use Rattle.elf_hash.specs.Lookups.{AnswersSysvLookup, GivesLookup, LooksBySysv, looked_after, lookup_in, step_bytes, symbol_bytes}
 pub use Rattle.elf_hash.specs.RelocationTables.{AreTableEntries, FindsSymbols, IsEntryOf, LocatedInBounds, located_by}

@@ -73,8 +73,8 @@ fn by_entries(
     segment_lookup_tables(view, segment, found, kind, &row)
 }
 
-/// Returns the entry that locates a hash table: DT_GNU_HASH, otherwise DT_HASH.
-fn hash_entry(found: &DynamicTags) -> Option<(HashStyle, DynEntry)>
+/// Returns the entry that locates a hash table, with its style: DT_GNU_HASH, otherwise DT_HASH.
+pub fn hash_entry(found: &DynamicTags) -> Option<(HashStyle, DynEntry)>
     ensures { (bytes : List ℕ) (at : ℕ) → AreTaggedEntries bytes at found.now →
         ReturnsHash bytes at result }
 {
@@ -87,14 +87,16 @@ fn hash_entry(found: &DynamicTags) -> Option<(HashStyle, DynEntry)>
     Some((HashStyle::Sysv, row))
 }
 
-/// Returns the tables that a lookup searches, by the entry that locates the hash table and the
-/// others.
+/// Returns the tables that a lookup searches, by the entry that locates the hash table, which
+/// [`hash_entry`] returns, and the others. No bytes are read.
 ///
 /// # Errors
 /// Returns the first check that fails: those of [`ExecutionView::rest`] for the hash table;
-/// `HashShape` at its entry if it is too small for its counts, and if its words have 8 bytes; those
-/// of the symbols.
-fn segment_lookup_tables(
+/// `HashShape` at its entry if it is too small for its counts, and if its words have 8 bytes;
+/// `Unmapped` at it if no entry locates the symbols or their strings, or holds the size of these;
+/// those of [`ExecutionView::rest`] for the symbols and of [`ExecutionView::mapped`] for their
+/// strings, and if there are version tables those of [`ExecutionView::rest`] for each.
+pub fn segment_lookup_tables(
     view: &ExecutionView<'_>,
     segment: u16,
     found: &DynamicTags,

@@ -2,7 +2,7 @@
 use Rattle.std.proofs.Common.{◌≡◌, ◌≢◌, ℕ, ◌+◌, ◌*◌, ◌/◌, ◌<◌, ◌≤◌, ◌==◌, ◌&&◌, ◌||◌, nat_lt, if◌then◌else◌, Bool, true, false, List, [], ◌∷◌, ◌++◌, Option, None, Some, Result, Ok, Err, refl, sym, ap, subst, ◌∙◌, arith}
 use Rattle.std.proofs.Math.Nat.{mul-add, mul-le-mul, mul-le-mul_left}
 use Rattle.std.proofs.lemmas.Bool.{le-ltb, lt-ltb, ne_eqb}
-use Rattle.elf_model.specs.Prelude.{Check, DisplayedName, Fault as FaultItem, LinePrefix, ListingItem, ListingStyle, LocatedSymbols, LocatedTable as IsLocated, RELOCS, SEGMENTS, chosen_row, dynamic_relocations, dynamic_segment_index, e_machine, e_phnum, each, entries_rows, first_refusal, first_segment_relocations, follows_dynamic, form_rows, form_size, guarded, has, lies_in_segments, located_items, located_row, located_rows, located_symbols, located_table, locates_relocations, name_bytes, named_among, no_name, overlap_checks, p_filesz, p_offset, r_sym, relocation_choice, relocation_prefix, relocation_size, relocation_table_rows, relr_rows_at, segment_at, segment_dynamic_checks, segment_relocations, shown, st_name}
+use Rattle.elf_model.specs.Prelude.{Check, DisplayedName, Fault as FaultItem, LinePrefix, ListingItem, ListingStyle, LocatedSymbols, LocatedTable as IsLocated, RELOCS, SEGMENTS, SYMBOLS, chosen_row, dynamic_segment_index, dynamic_tables, e_machine, e_phnum, each, entries_rows, first_refusal, first_segment_tables, follows_dynamic, form_rows, form_size, guarded, has, has_located, lies_in_segments, located_items, located_row, located_rows, located_symbols, located_table, locates_tables, name_bytes, named_among, no_name, overlap_checks, p_filesz, p_offset, r_sym, relocation_choice, relocation_prefix, relocation_size, relocation_table_rows, relr_rows_at, segment_at, segment_dynamic_checks, segment_relocations, segment_symbol_rows, segment_tables, shown, st_name, table_most, where_asked}
 use Rattle.elf_model.specs.declared.causes.Cause.TheVariants.{BadLink, SymbolIndex}
 use Rattle.elf_model.specs.declared.causes.Cause.{Cause}
 use Rattle.elf_model.specs.declared.causes.Refusal.{Refusal}
@@ -26,9 +26,8 @@ use Rattle.elf_table.specs.declared.file.SectionView.{SectionView}
 use Rattle.elf_table.specs.declared.run_fault.RunFault.{RunFault}
 use Rattle.elf_listing.specs.Shows.{ListingCalls, ListingWrote, WroteUntilStop}
 use Rattle.elf_listing.specs.Located.{ViewsEntries}
-use Rattle.elf_listing.specs.declared.dynamic_relocations.SegmentEntries.{SegmentEntries}
+use Rattle.elf_listing.specs.declared.dynamic_tables.SegmentEntries.{SegmentEntries}
 use Rattle.elf_listing.specs.declared.listing.Listing.{Listing}
-use Rattle.elf_listing.specs.Parts.{table_most}
 use Rattle.elf_listing.proofs.ListsLaws.{ListingCalls-within}
 use Rattle.elf_listing.proofs.RowLaws.{Ends-first, WroteSome-as, WroteUntilStop-first, entry_place}
 use Rattle.elf_listing.proofs.SymbolNamed.{refuses_as}
@@ -95,16 +94,16 @@ guarded_fails checks items a fault by =
     WroteUntilStop-first a fault _ (λ refusal is other. guarded-fault checks items refusal (subst (RefusedBy checks) is by))
 
 -- the segment of the entries
-pub no_segment : (file : List ℕ) (style : ListingStyle) (first : Option ℕ) → first_refusal (overlap_checks file) ≡ None → first ≡ None
-    → guarded (overlap_checks file) (first_segment_relocations file style first) ≡ []
-unfolding first_segment_relocations
-no_segment file style first passed none = guarded-passes (overlap_checks file) _ passed ∙ ap (first_segment_relocations file style) none
+pub no_segment : (file : List ℕ) (style : ListingStyle) (parts : ℕ) (first : Option ℕ) → first_refusal (overlap_checks file) ≡ None → first ≡ None
+    → guarded (overlap_checks file) (first_segment_tables file style parts first) ≡ []
+unfolding first_segment_tables
+no_segment file style parts first passed none = guarded-passes (overlap_checks file) _ passed ∙ ap (first_segment_tables file style parts) none
 
-pub in_segment : (file : List ℕ) (style : ListingStyle) (first : Option ℕ) (segment : ℕ) → first_refusal (overlap_checks file) ≡ None → first ≡ Some segment
-    → guarded (overlap_checks file) (first_segment_relocations file style first)
-    ≡ guarded (segment_dynamic_checks file (segment_at file segment)) (segment_relocations file style segment (segment_at file segment))
-unfolding first_segment_relocations
-in_segment file style first segment passed some = guarded-passes (overlap_checks file) _ passed ∙ ap (first_segment_relocations file style) some
+pub in_segment : (file : List ℕ) (style : ListingStyle) (parts : ℕ) (first : Option ℕ) (segment : ℕ) → first_refusal (overlap_checks file) ≡ None → first ≡ Some segment
+    → guarded (overlap_checks file) (first_segment_tables file style parts first)
+    ≡ guarded (segment_dynamic_checks file (segment_at file segment)) (segment_tables file style parts segment (segment_at file segment))
+unfolding first_segment_tables
+in_segment file style parts first segment passed some = guarded-passes (overlap_checks file) _ passed ∙ ap (first_segment_tables file style parts) some
 
 -- a table that is refused, that is none, and that is found
 module _ (file : List ℕ) (style : ListingStyle) (segment at : ℕ) (table : RelocationTable) where
@@ -192,6 +191,8 @@ pub views_kept : {S W X : Type 0} {s : Sources S} {w : Sinks W} {a b : Listing S
     → ListingCalls a b result n shows → ViewsEntries a.file.loaded.size a.src.now.seen.file entries → ViewsEntries b.file.loaded.size b.src.now.seen.file entries
 views_kept entries p views = record {
   sized = views.sized ∙ sym (ap (λ (f : SectionView). f.loaded.size) p.keeps.same_file);
+  fits = views.fits;
+  header = views.header;
   viewed = λ file held. views.viewed file (sym p.spent.0.reads.keeps.same_file ∙ held);
   tagged = λ file held. views.tagged file (sym p.spent.0.reads.keeps.same_file ∙ held);
 }
@@ -203,22 +204,37 @@ pub four_are : (file : List ℕ) (style : ListingStyle) (segment at : ℕ)
 unfolding segment_relocations
 four_are file style segment at = refl
 
-pub dynamic_are : (file : List ℕ) (style : ListingStyle) → dynamic_relocations file style ≡ guarded (overlap_checks file) (first_segment_relocations file style (dynamic_segment_index file))
-unfolding dynamic_relocations
-dynamic_are file style = refl
+pub tables_are : (file : List ℕ) (style : ListingStyle) (parts segment at : ℕ)
+    → segment_tables file style parts segment at
+    ≡ where_asked parts SYMBOLS (segment_symbol_rows file style segment at) ++ where_asked parts RELOCS (segment_relocations file style segment at)
+unfolding segment_tables
+tables_are file style parts segment at = refl
 
-pub overlap_fails : (file : List ℕ) (style : ListingStyle) (a : OutState) (fault : Fault) → RefusedBy (overlap_checks file) fault → WroteUntilStop a a (stop_of fault) (dynamic_relocations file style)
-unfolding dynamic_relocations
-overlap_fails file style a fault by = guarded_fails (overlap_checks file) _ a fault by
+pub dynamic_are : (file : List ℕ) (style : ListingStyle) (parts : ℕ)
+    → dynamic_tables file style parts ≡ guarded (overlap_checks file) (first_segment_tables file style parts (dynamic_segment_index file))
+unfolding dynamic_tables
+dynamic_are file style parts = refl
+
+pub overlap_fails : (file : List ℕ) (style : ListingStyle) (parts : ℕ) (a : OutState) (fault : Fault) → RefusedBy (overlap_checks file) fault
+    → WroteUntilStop a a (stop_of fault) (dynamic_tables file style parts)
+unfolding dynamic_tables
+overlap_fails file style parts a fault by = guarded_fails (overlap_checks file) _ a fault by
 
 -- what dynamic entries locate, if it is asked for
-pub items_asked : (file : List ℕ) (style : ListingStyle) (parts : ℕ) → locates_relocations file style parts ≡ true → located_items file style parts ≡ dynamic_relocations file style
+pub items_asked : (file : List ℕ) (style : ListingStyle) (parts : ℕ) → locates_tables file style parts ≡ true → located_items file style parts ≡ dynamic_tables file style parts
 unfolding located_items
 items_asked file style parts is = rw is refl
 
-pub items_none : (file : List ℕ) (style : ListingStyle) (parts : ℕ) → locates_relocations file style parts ≡ false → located_items file style parts ≡ []
+pub items_none : (file : List ℕ) (style : ListingStyle) (parts : ℕ) → locates_tables file style parts ≡ false → located_items file style parts ≡ []
 unfolding located_items
 items_none file style parts is = rw is refl
+
+-- items of a part that the parts have, or not
+pub part_asked : (parts part : ℕ) (items : List ListingItem) → has parts part ≡ true → where_asked parts part items ≡ items
+part_asked parts part items is = rw (is, where_asked) refl
+
+pub part_none : (parts part : ℕ) (items : List ListingItem) → has parts part ≡ false → where_asked parts part items ≡ []
+part_none parts part items is = rw (is, where_asked) refl
 
 -- the dynamic entries of a segment
 pub segment_found : (file : List ℕ) (at : ℕ) (table : TableRange) → dynamic_table_at file at ≡ Ok table
@@ -235,15 +251,15 @@ pub lists_as : {S W X : Type 0} {s : Sources S} {w : Sinks W} {a b : Listing S W
     → ((file : List ℕ) → ys file ≡ xs file) → ListingCalls a b result n (ListingWrote a b result xs) → ListingCalls a b result k (ListingWrote a b result ys)
 lists_as within same p = ListingCalls-within _ _ _ _ _ _ _ within p (λ file held. WroteSome-as _ _ _ (same file) (p.shows file held))
 
--- relocations are located by the file, or by what was loaded of it
+-- tables are located by the file, or by what was loaded of it
 pub asked_by : (file : List ℕ) (style : ListingStyle) (parts : ℕ) (loaded : LoadedFile) (store : StoreState) → HoldsSectionHeaders file loaded store
-    → locates_relocations file style parts ≡ (loaded.header.e_shnum == 0 && (follows_dynamic style && has parts RELOCS))
-asked_by file style parts loaded store belongs = ap (λ (n : ℕ). n == 0 && (follows_dynamic style && has parts RELOCS)) (sym belongs.header.e_shnum)
+    → locates_tables file style parts ≡ (loaded.header.e_shnum == 0 && (follows_dynamic style && has_located parts))
+asked_by file style parts loaded store belongs = ap (λ (n : ℕ). n == 0 && (follows_dynamic style && has_located parts)) (sym belongs.header.e_shnum)
 
 -- then all program headers are in the store
-pub located_whole : (style : ListingStyle) (parts : ℕ) (loaded : LoadedFile) → (loaded.header.e_shnum == 0 && (follows_dynamic style && has parts RELOCS)) ≡ true
+pub located_whole : (style : ListingStyle) (parts : ℕ) (loaded : LoadedFile) → (loaded.header.e_shnum == 0 && (follows_dynamic style && has_located parts)) ≡ true
     → viewed_headers style parts loaded ≡ loaded.header.e_phnum
-located_whole style parts loaded asked = ap (λ (needed : Bool). if needed then loaded.header.e_phnum else 0) (needs (loaded.header.e_shnum == 0) (follows_dynamic style && has parts RELOCS) (has parts 4) (has parts 32) (has parts 64) asked)
+located_whole style parts loaded asked = ap (λ (needed : Bool). if needed then loaded.header.e_phnum else 0) (needs (loaded.header.e_shnum == 0) (follows_dynamic style && has_located parts) (has parts 4) (has parts 32) (has parts 64) asked)
   where
     needs : (none located shown notes dynamic : Bool) → (none && located) ≡ true → (none && (shown || (notes || (dynamic || located)))) ≡ true
     needs true true true notes dynamic e = refl

@@ -1,11 +1,11 @@
 -- What the tables of a loaded file read, by the section headers in the store.
-use Rattle.elf_model.specs.Prelude.{Check, HeaderTable, ListingStyle, PT_DYNAMIC, RELOCS, SECTIONS, SEGMENTS, TableKind, after_header, ceiling, cost_where, e_phnum, e_shnum, early_checks, file_segments, first_refusal, follows_dynamic, has, has_tables, header_checks, held_headers, is_loadable, is_outside, kind_by_kind, kinds_cost, known_parts, lies_in_segments, listing_cost, located_cost, located_most, name_bytes, p_filesz, p_offset, p_type, pass, range_checks_of, refuse, section_kinds, section_name_checks, sections_cost, segment_dynamic, segment_kinds, segments_cost, sh_offset, sh_size, style_ceiling, suffixes_most, sum_over, symbol_versions, table_checks_of, table_cost, tables_ceiling, tables_cost, viewed as view_of, whole_checks_of}
+use Rattle.elf_model.specs.Prelude.{Check, HeaderTable, ListingStyle, PT_DYNAMIC, RELOCS, SECTIONS, SEGMENTS, SYMBOLS, TableKind, after_header, ceiling, cost_where, e_phnum, e_shnum, early_checks, file_segments, first_refusal, follows_dynamic, has, has_tables, header_checks, held_headers, is_loadable, is_outside, kind_by_kind, kinds_cost, known_parts, lies_in_segments, listing_cost, located_cost, located_most, name_bytes, p_filesz, p_offset, p_type, pass, range_checks_of, refuse, section_kinds, section_name_checks, sections_cost, segment_dynamic, segment_kinds, segments_cost, sh_offset, sh_size, style_ceiling, suffixes_most, sum_over, symbol_versions, table_checks_of, table_cost, table_most, tables_ceiling, tables_cost, viewed as view_of, whole_checks_of}
 use Rattle.elf_model.specs.declared.causes.Cause.TheVariants.{SizeNotWhole, TableOutside}
 use Rattle.std.proofs.Common.{◌≡◌, ℕ, ◌+◌, ◌-◌, ◌*◌, ◌/◌, ◌%◌, ◌<◌, ◌≤◌, ◌==◌, ◌&&◌, ◌||◌, ◌⊎◌, inl, inr, not, if◌then◌else◌, Bool, true, false, List, [], ◌∷◌, ◌++◌, length, Option, None, Some, Result, Ok, refl, sym, ap, ◌∙◌, arith}
 use Rattle.std.proofs.lemmas.Bool.{cases_Bool, eqb-true}
 use Rattle.std.specs.Prelude.{is_none}
 use Rattle.elf_model.proofs.CheckSteps.{first_refusal-none, passes_front}
-use Rattle.elf_model.proofs.CostLemmas.{tables_by, headers_none}
+use Rattle.elf_model.proofs.CostLemmas.{headers_none, located_within, tables_by}
 use Rattle.elf_model.proofs.SumLemmas.{cost_where-le, cost_where-within, sum_over-le, sums_grow}
 use Rattle.elf_model.proofs.StoreLemmas.{rows_cost, segments_cost_rows, by_kind, any_rows, any_segments, sections_counted, places_decide_nothing}
 use Rattle.elf_record.specs.Prelude.{IsEhdr}
@@ -232,13 +232,7 @@ ceiling_below size headers style = by_cases style.versions
     by_cases true = omega arith
     by_cases false = omega arith
 
--- what dynamic entries locate, if the style follows them and the file has no sections
-located_most_asked : (none follows asked : Bool) (most : ℕ) → cost_where (none && (follows && asked)) most ≤ cost_where follows most
-located_most_asked true true true most = omega arith
-located_most_asked true true false most = omega arith
-located_most_asked true false asked most = omega arith
-located_most_asked false follows asked most = omega arith
-
+-- what dynamic entries locate, if the file has no sections
 located_sectioned : (style : ListingStyle) (parts : ℕ) (loaded : LoadedFile) → (loaded.header.e_shnum == 0) ≡ false → located_asked style parts loaded ≡ 0
 located_sectioned style parts loaded some = rw some refl
 
@@ -308,7 +302,7 @@ loaded_below loaded store size slots style parts same slotted count few some vie
           let within = cost_where-le (needs_segment_view style parts loaded) loaded.header.e_phnum in
           let more = sums_grow (λ i. kinds_cost segment_kinds (store_segments store) i loaded.size style.cap parts) 0 store.segments loaded.header.e_phnum (omega (arith, within, view)) in
           let all = any_segments (store_segments store) loaded.size slots style.cap parts loaded.header.e_phnum some in
-          let located = located_most_asked (loaded.header.e_shnum == 0) (follows_dynamic style) (has parts RELOCS) (located_most loaded.size style.cap) in
+          let located = located_within (loaded.header.e_shnum == 0) (follows_dynamic style) (has parts SYMBOLS) (has parts RELOCS) (table_most loaded.size style.cap) in
           omega (arith, zero, count, tables, names, unnamed, listed, asked, more, all, located, ceiling_below loaded.size slots style)
       | inr sectioned ↦
           let zero = sum_of_none (λ i. kinds_cost segment_kinds (store_segments store) i loaded.size style.cap parts) store.segments (view ∙ viewed_none style parts loaded sectioned) in

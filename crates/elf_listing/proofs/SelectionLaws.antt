@@ -1,6 +1,6 @@
 -- What is shown if no row is selected, and which symbols are.
 use Rattle.std.proofs.Common.{◌≡◌, ℕ, ◌==◌, ◌&&◌, ◌||◌, not, Bool, true, false, List, refl, sym, ◌∙◌, subst}
-use Rattle.elf_model.specs.Prelude.{DisplayedName, EveryRow, ListingStyle, RowFilter as RowsShown, Suffix, chooses, is_narrow, is_placed, narrowed, place_of_symbol, placed_choice, sh_type, shows_place, shows_symbol, st_shndx, symbol_choice}
+use Rattle.elf_model.specs.Prelude.{DisplayedName, EveryRow, ListingStyle, RowFilter as RowsShown, Suffix, chooses, class_choice, is_narrow, is_placed, narrowed, place_of_symbol, placed_choice, sh_type, shows_place, shows_symbol, st_shndx, symbol_choice}
 use Rattle.elf_model.proofs.PlaceLaws.{every_place_is_shown}
 use Rattle.elf_model.proofs.FilterLaws.{every_symbol_is_shown}
 use Rattle.elf_model.specs.declared.place_filters.RowPlace.{RowPlace}
@@ -37,20 +37,27 @@ pub class_and_place : (class place : Bool) (choice : RowsShown) (name : Displaye
 class_and_place true place choice name after = refl
 class_and_place false place choice name after = refl
 
--- the result for a symbol of the file, in a style that is the same
+-- the result for a symbol at a place, in a style that is the same
+pub class-chosen-as : (style now : Shape) (file : List ℕ) (symbol_at : ℕ) (is_defined is_dynamic : Bool) (place : RowPlace) (name : DisplayedName) (after : Suffix) (answer b : Bool) → now ≡ style
+    → is_defined ≡ not (st_shndx file symbol_at == 0) → place ≡ place_of_symbol file symbol_at
+    → answer ≡ chooses (narrowed (shows_symbol now.symbols is_defined is_dynamic && shows_place now.place place) (choice_of now.choice)) name after → answer ≡ b
+    → chooses (class_choice file (style_of style) is_dynamic symbol_at) name after ≡ b
+class-chosen-as style now file symbol_at is_defined is_dynamic place name after answer b same defined here is shows =
+    let by_class = sym is ∙ shows in
+    let by_type =
+    subst (λ (d : Bool). chooses (narrowed (shows_symbol now.symbols d is_dynamic && shows_place now.place place) (choice_of now.choice)) name after ≡ b) defined by_class in
+    let by_place =
+    subst (λ (p : RowPlace). chooses (narrowed (shows_symbol now.symbols (not (st_shndx file symbol_at == 0)) is_dynamic && shows_place now.place p) (choice_of now.choice)) name after ≡ b) here by_type in
+    subst (λ (s : Shape). chooses (narrowed (shows_symbol s.symbols (not (st_shndx file symbol_at == 0)) is_dynamic && shows_place s.place (place_of_symbol file symbol_at)) (choice_of s.choice)) name after ≡ b) same by_place
+
+-- and for one of a section of the file
 pub symbol-chosen-as : (style now : Shape) (file : List ℕ) (at symbol_at : ℕ) (is_defined is_dynamic : Bool) (place : RowPlace) (name : DisplayedName) (after : Suffix) (answer b : Bool) → now ≡ style
     → is_defined ≡ not (st_shndx file symbol_at == 0) → is_dynamic ≡ (sh_type file at == 11) → place ≡ place_of_symbol file symbol_at
     → answer ≡ chooses (narrowed (shows_symbol now.symbols is_defined is_dynamic && shows_place now.place place) (choice_of now.choice)) name after → answer ≡ b
     → chooses (symbol_choice file (style_of style) at symbol_at) name after ≡ b
 symbol-chosen-as style now file at symbol_at is_defined is_dynamic place name after answer b same defined dynamic here is shows =
-    let by_class = sym is ∙ shows in
-    let by_type =
-    subst (λ (d : Bool). chooses (narrowed (shows_symbol now.symbols d is_dynamic && shows_place now.place place) (choice_of now.choice)) name after ≡ b) defined by_class in
-    let by_file =
-    subst (λ (y : Bool). chooses (narrowed (shows_symbol now.symbols (not (st_shndx file symbol_at == 0)) y && shows_place now.place place) (choice_of now.choice)) name after ≡ b) dynamic by_type in
-    let by_place =
-    subst (λ (p : RowPlace). chooses (narrowed (shows_symbol now.symbols (not (st_shndx file symbol_at == 0)) (sh_type file at == 11) && shows_place now.place p) (choice_of now.choice)) name after ≡ b) here by_file in
-    subst (λ (s : Shape). chooses (narrowed (shows_symbol s.symbols (not (st_shndx file symbol_at == 0)) (sh_type file at == 11) && shows_place s.place (place_of_symbol file symbol_at)) (choice_of s.choice)) name after ≡ b) same by_place
+    subst (λ (y : Bool). chooses (class_choice file (style_of style) y symbol_at) name after ≡ b) dynamic
+    (class-chosen-as style now file symbol_at is_defined is_dynamic place name after answer b same defined here is shows)
 
 -- and for any row at a place
 pub placed-chosen-as : (style now : Shape) (place other : RowPlace) (name : DisplayedName) (after : Suffix) (answer b : Bool) → now ≡ style → place ≡ other

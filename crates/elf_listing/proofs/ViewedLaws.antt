@@ -1,13 +1,25 @@
 -- Program headers that are loaded remain those of a source that is read, and are checked if a style
 -- uses them.
-use Rattle.std.proofs.Common.{◌≡◌, ℕ, ◌==◌, ◌&&◌, Bool, true, false, List, [], None, if◌then◌else◌, refl, ap, ◌∙◌, sym, eq-eqb}
-use Rattle.elf_model.specs.Prelude.{ListingStyle, e_shnum, first_refusal, needs_segments, overlap_checks, view_checks}
+use Rattle.std.proofs.Common.{◌≡◌, ℕ, ◌^◌, ◌==◌, ◌&&◌, nat_lt, Bool, true, false, List, [], None, Some, if◌then◌else◌, refl, ap, ◌∙◌, sym, eq-eqb}
+use Rattle.std.proofs.lemmas.Bool.{ltb-false, ltb-true}
+use Rattle.elf_model.specs.Prelude.{ListingStyle, e_shnum, first_refusal, length_checks, needs_segments, overlap_checks, view_checks}
+use Rattle.elf_model.specs.declared.causes.Cause.TheVariants.{Short, TooLong}
+use Rattle.elf_model.specs.declared.causes.Refusal.{Refusal}
 use Rattle.elf_source.specs.Source.{CountedState, ReadsUpTo}
 use Rattle.elf_table.specs.Prelude.{HoldsSectionHeaders, LoadedFile, StoreState}
-use Rattle.elf_listing.specs.Viewed.{IsViewed, needs_segment_view, viewed_headers}
+use Rattle.elf_listing.specs.Viewed.{HasLength, IsViewed, needs_segment_view, viewed_headers}
+
+-- a length that its checks do not refuse
+pub length_fits : (size : ℕ) → ((refusal : Refusal) → first_refusal (length_checks size) ≡ Some refusal → ⊥) → HasLength size
+length_fits size passes = by_tests (nat_lt size (2 ^ 63)) (nat_lt size 64) refl refl
+  where
+    by_tests : (small short : Bool) → nat_lt size (2 ^ 63) ≡ small → nat_lt size 64 ≡ short → HasLength size
+    by_tests false short few least = absurd (passes (record { at = size; cause = TooLong }) (rw few refl))
+    by_tests true true few least = absurd (passes (record { at = size; cause = Short }) (rw (few, least) refl))
+    by_tests true false few least = record { least = ltb-false size 64 least; small = ltb-true size (2 ^ 63) few }
 
 pub still_viewed : {a b : CountedState} {n : ℕ} (loaded : LoadedFile) (store : StoreState) → ReadsUpTo a b n → IsViewed a.seen.file loaded store → IsViewed b.seen.file loaded store
-still_viewed loaded store p viewed = record { all = viewed.all; held = λ file is. viewed.held file (sym p.keeps.same_file ∙ is) }
+still_viewed loaded store p viewed = record { fits = viewed.fits; all = viewed.all; held = λ file is. viewed.held file (sym p.keeps.same_file ∙ is) }
 
 -- a style does not use them
 pub not_by : (by : Bool) → by ≡ false → by ≡ true → ⊥

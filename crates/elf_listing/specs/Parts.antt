@@ -1,7 +1,7 @@
 -- The parts of a listing after the file header: what is listed of each section, and how much is
 -- read.
 use Rattle.std.specs.Prelude.{ℕ, ◌+◌, ◌-◌, ◌*◌, ◌/◌, ◌==◌, ◌&&◌, ◌≡◌, not, Bool, false, List, [], ◌∷◌, length, take, Option, None, Some, Result}
-use Rattle.elf_model.specs.Prelude.{DisplayedName, HeaderTable, ListingItem, ListingStyle, RELOCS, SECTIONS, SEGMENTS, TableKind, cost_where, each, either_kind, fault_of, follows_dynamic, has, held_headers, located_most, name_bytes, no_name, records_rows, relative_relocations, section_at, section_kinds, section_row, segment_at, segment_kinds, segment_row, shown, sum_over, symbol_versions, table_cost, table_rows, version_definitions, version_needs}
+use Rattle.elf_model.specs.Prelude.{DisplayedName, HeaderTable, ListingItem, ListingStyle, RELOCS, SECTIONS, SEGMENTS, SYMBOLS, TableKind, cost_where, each, either_kind, fault_of, follows_dynamic, has, has_located, held_headers, located_count, name_bytes, no_name, records_rows, relative_relocations, section_at, section_kinds, section_row, segment_at, segment_kinds, segment_row, shown, sum_over, symbol_versions, table_cost, table_most, table_rows, version_definitions, version_needs}
 use Rattle.elf_model.specs.TableKinds.{entries_kind, relocations_kind, symbols_kind}
 use Rattle.elf_model.specs.declared.causes.Cause.{Cause}
 use Rattle.elf_table.specs.Prelude.{LoadedFile, StoreState, StringTableRange, row, segment_bytes, strings_in}
@@ -106,14 +106,11 @@ asked_cost parts part loaded store cap = cost_where (has parts part.bit) (part_c
 abbrev pub segments_listed : ℕ → LoadedFile → ℕ
 segments_listed parts loaded = cost_where (has parts SEGMENTS && not (loaded.header.e_shnum == 0)) (56 * loaded.header.e_phnum)
 
--- how many bytes a table that dynamic entries locate reads at most, in a file of a size
-abbrev pub table_most : (size cap : ℕ) → ℕ
-table_most size cap = size + size / 16 * (32 + name_bytes cap)
-
 -- how many bytes what dynamic entries locate reads at most, in a file without section headers
 abbrev pub located_asked : ListingStyle → ℕ → LoadedFile → ℕ
 located_asked style parts loaded =
-    cost_where (loaded.header.e_shnum == 0 && (follows_dynamic style && has parts RELOCS)) (located_most loaded.size style.cap)
+    cost_where (loaded.header.e_shnum == 0 && (follows_dynamic style && has_located parts))
+    (located_count (has parts SYMBOLS) (has parts RELOCS) * table_most loaded.size style.cap)
 
 -- how many bytes some kinds read at most, those among the parts
 unfoldable pub kinds_asked : ℕ → List PartListed → LoadedFile → StoreState → ℕ → ℕ

@@ -18,4 +18,4 @@ pub use Rattle.elf_listing.specs.SymbolVersions.{AreNumbered, AreRecordsWhole, N
 unfoldable pub use Rattle.elf_listing.specs.SymbolVersions.{versioned_items}
 pub use Rattle.elf_listing.specs.TableRows.{IsRowOf, RowLayout, rows_cost}
 pub use Rattle.elf_listing.specs.Versions.{kind_type, records_cost, records_kind, versions_items}
-pub use Rattle.elf_listing.specs.Viewed.{ChecksView, needs_segment_view, view_cost, viewed_headers}
+pub use Rattle.elf_listing.specs.Viewed.{ChecksView, HasLength, needs_segment_view, view_cost, viewed_headers}

@@ -1,6 +1,6 @@
 -- The program headers that are loaded besides a file's section headers: where they describe its
 -- tables.
-use Rattle.std.specs.Prelude.{ℕ, ◌≡◌, ◌*◌, ◌<◌, ◌≤◌, ◌==◌, ◌&&◌, ◌||◌, Bool, List, Option, None, Some, Result, Ok, Err, if◌then◌else◌}
+use Rattle.std.specs.Prelude.{ℕ, ◌≡◌, ◌*◌, ◌^◌, ◌<◌, ◌≤◌, ◌==◌, ◌&&◌, ◌||◌, Bool, List, Option, None, Some, Result, Ok, Err, if◌then◌else◌}
 use Rattle.elf_model.specs.Prelude.{Check, IsBudgetRefusal, ListingStyle, SEGMENTS, cost_where, first_refusal, has, lies_in_segments}
 use Rattle.elf_source.specs.Source.{CountedState}
 use Rattle.elf_table.specs.Prelude.{HoldsSegments, IsOpen, LoadedFile, SegmentsInBounds, StoreState}
@@ -19,8 +19,14 @@ viewed_headers style parts loaded = if needs_segment_view style parts loaded the
 abbrev pub view_cost : ListingStyle → ℕ → LoadedFile → ℕ
 view_cost style parts loaded = cost_where (needs_segment_view style parts loaded) (56 * loaded.header.e_phnum)
 
+-- the length of a file passes its checks: it has a file header, and offsets in it may be added
+pub record HasLength (size : ℕ) : Type 0 where
+  pub least : 64 ≤ size
+  pub small : size < 2 ^ 63
+
 -- if program headers are loaded, all of them are, and they are those of the source's file
 pub record IsViewed (file : Option (List ℕ)) (loaded : LoadedFile) (store : StoreState) : Type 0 where
+  pub fits : HasLength loaded.size
   pub all : 0 < store.segments → store.segments ≡ loaded.header.e_phnum
   pub held : (bytes : List ℕ) → file ≡ Some bytes → HoldsSegments bytes store
 

@@ -1,13 +1,11 @@
 //! The relocations that dynamic entries locate.
-ghost use Rattle.std.specs.Prelude.{◌≡◌, ◌==◌, ◌&&◌, ◌*◌, ◌<◌, true, ℕ, List, IfSome};
-ghost use Rattle.elf_model.specs.Prelude.{RELOCS, dynamic_relocations, follows_dynamic, guarded, has, relocation_size, segment_at, segment_dynamic_checks, segment_relocations};
+ghost use Rattle.std.specs.Prelude.{◌≡◌, ◌*◌, ℕ, List, IfSome};
+ghost use Rattle.elf_model.specs.Prelude.{relocation_size, segment_at, segment_relocations};
 ghost use Rattle.elf_options.specs.Permitted.{style_of};
 ghost use Rattle.elf_table.specs.Tables.{TableInBounds};
-ghost use Rattle.elf_listing.specs.HeadersListed.{ListsLocated, ListsView};
 ghost use Rattle.elf_listing.specs.Located.{ListsLocatedBy, ListsEntries, ListsTable, ViewsEntries, located_layout};
-ghost use Rattle.elf_listing.specs.Parts.{table_most};
-ghost use Rattle.elf_listing.specs.Viewed.{viewed_headers};
 
+use crate::dynamic_tables::SegmentEntries;
 use crate::listing::Listing;
 use crate::name_versions::{NameVersions, NoVersions};
 use crate::relative_relocations::list_words;
@@ -16,26 +14,11 @@ use crate::row_cursor::RowCursor;
 use crate::row_places::place_of_relocation;
 use crate::row_selection::RowSelection;
 use crate::table_rows::{TableRows, list_rows};
-use crate::table_view::follows_dynamic;
-use bitflags::Flags;
 use elf_format::{LinePrefix, Render, relocation_prefix};
-use elf_hash::{DynamicTags, first_entries, located_symbols, located_table};
+use elf_hash::{located_symbols, located_table};
 use elf_model::{RelocationForm, RelocationTable};
-use elf_record::Parts;
-use elf_record::numbers::PT_DYNAMIC;
 use elf_source::{Sink, Source};
-use elf_table::{Cursor, ExecutionView, LinkedSymbolTable, Row, RunFault, Table};
-
-/// The first dynamic entries of a segment, by which tables are located.
-#[derive(Clone, Copy)]
-pub struct SegmentEntries<'f> {
-    /// The file with its program headers.
-    pub view: ExecutionView<'f>,
-    /// The index of the segment.
-    pub segment: u16,
-    /// The first entry with each tag.
-    pub found: DynamicTags,
-}
+use elf_table::{Cursor, LinkedSymbolTable, Row, RunFault, Table};
 
 /// Relocation entries that dynamic entries locate, an `R` line each (gABI 4, Relocation).
 #[derive(Clone, Copy)]
@@ -74,84 +57,8 @@ impl TableRows for LocatedRelocations {
     }
 }
 
-impl<S: Source, W: Sink> Listing<'_, '_, '_, '_, S, W> {
-    /// Shows the program headers and what dynamic entries locate, those that `parts` has, up to the
-    /// first refusal.
-    pub(crate) fn view_headers(&mut self, parts: Parts) -> Result<(), RunFault>
-        requires { self.old.file.store.now.segments
-            ≡ viewed_headers (style_of self.old.style) parts.0 self.old.file.loaded }
-        ensures { ListsView parts.0 self.old self.new result }
-    {
-        self.program_headers(parts)?;
-        self.located(parts)
-    }
-
-    /// Shows what dynamic entries locate, if `parts` has it, the style follows them, and the file
-    /// has no sections.
-    fn located(&mut self, parts: Parts) -> Result<(), RunFault>
-        requires { self.old.file.store.now.segments
-            ≡ viewed_headers (style_of self.old.style) parts.0 self.old.file.loaded }
-        ensures { ListsLocated parts.0 self.old self.new result }
-    {
-        if !self.is_located(parts) {
-            return Ok(());
-        }
-        list_located(self)
-    }
-
-    /// Returns `true` if relocations are found by dynamic entries.
-    fn is_located(&self, parts: Parts) -> bool
-        ensures { result ≡ (self.now.file.loaded.header.e_shnum == 0
-            && (follows_dynamic (style_of self.now.style) && has parts.0 RELOCS)) }
-    {
-        let is_followed = follows_dynamic(self.style) && parts.contains(Parts::RELOCS);
-        self.file.loaded.header().e_shnum == 0 && is_followed
-    }
-}
-
-/// Shows the relocations that the first segment of dynamic entries locates, if there is one. No
-/// LOAD segment overlaps another.
-fn list_located<S: Source, W: Sink>(
-    listing: &mut Listing<'_, '_, '_, '_, S, W>,
-) -> Result<(), RunFault>
-    requires { listing.old.file.store.now.segments ≡ listing.old.file.loaded.header.e_phnum }
-    ensures { ListsLocatedBy listing.old listing.new result 5
-        (λ file. dynamic_relocations file (style_of listing.old.style)) }
-{
-    let view = ExecutionView {
-        loaded: listing.file.loaded,
-        store: listing.file.store,
-    };
-    view.check_overlaps()?;
-    let Some(segment) = view.first_segment(PT_DYNAMIC) else {
-        return Ok(());
-    };
-    list_segment(listing, segment)
-}
-
-/// Shows the relocations that the dynamic entries of a segment locate.
-fn list_segment<S: Source, W: Sink>(
-    listing: &mut Listing<'_, '_, '_, '_, S, W>,
-    segment: u16,
-) -> Result<(), RunFault>
-    requires { segment < listing.old.file.store.now.segments }
-    ensures { ListsLocatedBy listing.old listing.new result 5 (λ file. let at = segment_at file segment in
-        guarded (segment_dynamic_checks file at)
-        (segment_relocations file (style_of listing.old.style) segment at)) }
-{
-    let view = listing.view();
-    let table = view.dynamic(segment)?;
-    let found = first_entries(listing.src, table)?;
-    let entries = SegmentEntries {
-        view,
-        segment,
-        found,
-    };
-    list_tables(listing, &entries)
-}
-
-/// Shows the tables that dynamic entries locate, in the order in which a loader applies them.
-fn list_tables<S: Source, W: Sink>(
+/// Shows the relocations that dynamic entries locate, in the order in which a loader applies them.
+pub(crate) fn list_relocations<S: Source, W: Sink>(
     listing: &mut Listing<'_, '_, '_, '_, S, W>,
     entries: &SegmentEntries<'_>,
 ) -> Result<(), RunFault>

@@ -7,7 +7,7 @@ ghost use Rattle.elf_model.specs.declared.causes.Refusal.{Refusal as Refuses};
 ghost use Rattle.elf_record.specs.Ehdr.{IsEhdr};
 ghost use Rattle.elf_listing.specs.FaultRows.{FindsFaultRow, HoldsFaultRow};
 ghost use Rattle.elf_listing.specs.Parts.{tables_listed};
-ghost use Rattle.elf_listing.specs.Viewed.{IsReady};
+ghost use Rattle.elf_listing.specs.Viewed.{HasLength, IsReady};
 ghost use Rattle.elf_table.specs.Faults.{HeaderRead};
 ghost use Rattle.elf_options.specs.Permitted.{style_of};
 ghost use Rattle.elf_listing.specs.Reports.{WroteReport, FaultSays, AsksWithin, KeepsSourceUnlimited};
@@ -200,6 +200,7 @@ fn list_by_segments<S: Source, W: Sink>(
     parts: Parts,
     out: &mut Out<W>,
 ) -> Result<(), RunFault>
+    requires fits { HasLength src.old.seen.size }
     requires header { (file : List ℕ) → src.old.seen.file ≡ Some file →
         HeaderRead file (Ok header.now) }
     ensures slots { store.new.slots ≡ store.old.slots }
@@ -239,6 +240,7 @@ fn list_by_sections<S: Source, W: Sink>(
     parts: Parts,
     out: &mut Out<W>,
 ) -> Result<(), RunFault>
+    requires fits { HasLength src.old.seen.size }
     requires header { (file : List ℕ) → src.old.seen.file ≡ Some file →
         HeaderRead file (Ok header.now) }
     requires hidden { (file : List ℕ) → src.old.seen.file ≡ Some file →

@@ -1,6 +1,6 @@
 //! The program headers that describe the tables of a listing.
 ghost use Rattle.std.specs.Prelude.{◌≡◌, ◌&&◌, ◌||◌, true, ℕ, List, Some, IfErr, OnOk};
-ghost use Rattle.elf_model.specs.Prelude.{SEGMENTS, e_shnum, follows_dynamic, has, lies_in_segments, view_checks};
+ghost use Rattle.elf_model.specs.Prelude.{SEGMENTS, e_shnum, follows_dynamic, has, has_located, lies_in_segments, view_checks};
 ghost use Rattle.elf_source.specs.Source.{ReadsUpTo};
 ghost use Rattle.elf_table.specs.Prelude.{ChecksDecide, HoldsSectionHeaders, HoldsSegments, IsOfCheck, IsOfRead, IsReadFault};
 ghost use Rattle.elf_options.specs.Permitted.{style_of};
@@ -109,7 +109,7 @@ fn needs_segment_view(style: ListingStyle, parts: Parts) -> bool
     parts.contains(Parts::SEGMENTS)
         || parts.contains(Parts::NOTES)
         || parts.contains(Parts::DYNAMIC)
-        || (follows_dynamic(style) && parts.contains(Parts::RELOCS))
+        || (follows_dynamic(style) && has_located(parts))
 }
 
 /// Returns `true` if the style lists what dynamic entries locate, in a file without sections.
@@ -117,4 +117,11 @@ pub(crate) fn follows_dynamic(style: ListingStyle) -> bool
     ensures { result ≡ follows_dynamic (style_of style.entry) }
 {
     style.gnu || style.by_segments
+}
+
+/// Returns `true` if the parts have what dynamic entries locate: symbols or relocations.
+pub(crate) fn has_located(parts: Parts) -> bool
+    ensures { result ≡ has_located parts.0 }
+{
+    parts.contains(Parts::SYMBOLS) || parts.contains(Parts::RELOCS)
 }

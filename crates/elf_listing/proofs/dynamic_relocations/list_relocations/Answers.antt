@@ -1,16 +1,15 @@
 -- The tables in their order.
 use Rattle.std.proofs.Common.{◌+◌, ◌*◌, ℕ, List, refl, ap, sym, ◌∙◌, arith}
 use Rattle.std.proofs.lemmas.Result.{err_from_is_err_and}
-use Rattle.elf_model.specs.Prelude.{ListingItem, relocation_table_rows, segment_at}
+use Rattle.elf_model.specs.Prelude.{ListingItem, relocation_table_rows, segment_at, table_most}
 use Rattle.elf_model.specs.declared.relocation_tables.RelocationTable.{RelocationTable}
 use Rattle.elf_model.specs.declared.relocation_tables.RelocationTable.TheVariants.{Jmprel, Rel, Rela, Relr}
 use Rattle.elf_options.specs.Permitted.{style_of}
 use Rattle.elf_options.specs.declared.caps.ListingStyle.{ListingStyle}
 use Rattle.elf_table.specs.declared.file.SectionView.{SectionView}
-use Rattle.elf_listing.specs.Parts.{table_most}
 use Rattle.elf_listing.proofs.LocatedShown.{four_are, lists_as, views_kept}
 use Rattle.elf_listing.proofs.PartsLaws.{Parts-more, Parts-then}
-use Rattle.elf_listing.proofs.dynamic_relocations.list_tables.Goals as goal
+use Rattle.elf_listing.proofs.dynamic_relocations.list_relocations.Goals as goal
 
 -- what a table reads, and its rows
 abbrev cost : SectionView → ListingStyle → ℕ

@@ -17,7 +17,7 @@ use Rattle.elf_listing.proofs.ShowLaws.{SpentCredit-after, SpentCredit-fault}
 use Rattle.elf_listing.proofs.ViewedLaws.{still_viewed}
 use Rattle.elf_source.proofs.GrowthLaws.{grows_not}
 use Rattle.elf_listing.proofs.ListsLaws.{ListingCalls-refused}
-use Rattle.elf_listing.proofs.dynamic_relocations.list_segment.Goals as goal
+use Rattle.elf_listing.proofs.dynamic_tables.list_segment.Goals as goal
 
 pub returns-in_err-table : goal.returns-in_err-table
 returns-in_err-table g c =
@@ -50,6 +50,8 @@ returns-in_err-found g c = record {
 pub list_tables-requires : goal.list_tables-requires
 list_tables-requires g c = record {
   sized = ap (λ l. l.size) c.view-view.ensures.loaded;
+  fits = rw c.view-view.ensures.loaded c.args.listing.now.viewed.fits;
+  header = rw (c.view-view.ensures.loaded, c.view-view.ensures.store) (record { below = c.requires; small = c.args.listing.now.viewed.fits.small });
   viewed = λ file held.
       let before = sym c.first_entries.ensures.did.costs.reads.keeps.same_file ∙ held in
       rw (c.view-view.ensures.loaded, c.view-view.ensures.store)

@@ -101,6 +101,7 @@ list_tables-requires g c =
       whole = c.load_view.ensures.loaded ∙ (opens.count ∙ sym (ap (λ (header : Ehdr). header.e_shnum) opens.same_header));
       counted = c.in_ok-load_view.ensures.segments;
       viewed = record {
+        fits = rw opens.same_size c.requires.fits;
         all = viewed_all (style_of c.args.style) c.args.parts.0 c.in_ok-loaded.loaded c.load_view.new.store c.in_ok-load_view.ensures.segments;
         held = λ file held.
             let loaded = sym c.load_view.ensures.reads.keeps.same_file ∙ held in

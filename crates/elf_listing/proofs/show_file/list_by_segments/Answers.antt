@@ -19,6 +19,7 @@ returns-then-not-style-clause-text g c = λ file held.
 
 pub list_by_sections-listed-requires : goal.list_by_sections-listed-requires
 list_by_sections-listed-requires g c = record {
+  fits = rw c.mask_section_headers.ensures.same_size c.requires.fits;
   header = λ viewed held.
       let file = hidden_file c.mask_section_headers.ensures viewed held in
       rw file.2 (header_hidden file.0 c.args.header.now c.without_sections.result (c.requires.header file.0 file.1) (c.without_sections.ensures file.0));
@@ -39,6 +40,7 @@ returns-clause-text g c = λ file held.
 
 pub list_by_sections-requires : goal.list_by_sections-requires
 list_by_sections-requires g c = record {
+  fits = c.requires.fits;
   header = c.requires.header;
   hidden = λ file held by. absurd (not_by c.args.style.by_segments c.if-not-style.true by);
 }

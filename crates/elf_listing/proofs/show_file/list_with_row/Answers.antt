@@ -8,6 +8,7 @@ use Rattle.elf_listing.proofs.FileShown.{header_part, items_are, header_alone}
 use Rattle.elf_listing.proofs.RowLaws.{WroteUntilStop-first, WroteSome-as}
 use Rattle.elf_listing.proofs.SectionCosts.{slots_below, cost_is}
 use Rattle.elf_listing.proofs.ShowLaws.{WroteSome-then, WroteUntilStop-more, ListingCosts-then, ListingCosts-fault, ListingCosts-out}
+use Rattle.elf_listing.proofs.ViewedLaws.{length_fits}
 use Rattle.elf_source.proofs.GrowthLaws.{grows_not, grows_then}
 use Rattle.elf_table.proofs.LoadLaws.{header_most}
 use Rattle.elf_listing.proofs.show_file.list_with_row.Goals as goal
@@ -107,7 +108,10 @@ returns-clause-alone g c = λ none.
     omega (arith, most, same, c.header.ensures.reads.at_most)
 
 pub list_by_segments-listed-requires : goal.list_by_segments-listed-requires
-list_by_segments-listed-requires g c = record { header = λ file held. c.in_ok-header.ensures.read file (sym c.header.ensures.reads.keeps.same_file ∙ held) }
+list_by_segments-listed-requires g c = record {
+  fits = rw c.header.ensures.reads.keeps.same_size (length_fits c.args.src.now.seen.size (λ refusal refused. no_fault (c.in_ok-header.ensures.unread refusal refused).0));
+  header = λ file held. c.in_ok-header.ensures.read file (sym c.header.ensures.reads.keeps.same_file ∙ held);
+}
 
 pub returns-in_err-header-clause-grows : goal.returns-in_err-header-clause-grows
 returns-in_err-header-clause-grows g c = grows_not _
