@@ -12,5 +12,6 @@ pub mod BudgetLaws
 pub mod HashedCallLaws
 pub mod ItemLaws
 pub mod LackLaws
+pub mod LocatedLaws
 pub mod ListingLaws
 pub mod NameLaws

@@ -56,9 +56,9 @@ located_position found = rows_from_first (record { at = found.place; count = fou
 
 -- it is returned, if there is one, or the refusal, except one for lack of budget
 abbrev pub ReturnsTable : {X : Type 0} → (LocatedTable → X) → Result (Option LocatedTable) Refusal → Result (Option X) Fault → Type 0
-ReturnsTable as told (Ok found) = (table : Option LocatedTable) × (told ≡ Ok table) × (found ≡ option_map as table)
-ReturnsTable as told (Err (Refused refusal)) = (IsBudgetRefusal refusal → ⊥) → told ≡ Err refusal
-ReturnsTable as told (Err (Source fault at)) = Unit {0}
+ReturnsTable make told (Ok found) = (table : Option LocatedTable) × (told ≡ Ok table) × (found ≡ option_map make table)
+ReturnsTable make told (Err (Refused refusal)) = (IsBudgetRefusal refusal → ⊥) → told ≡ Err refusal
+ReturnsTable make told (Err (Source fault at)) = Unit {0}
 
 -- a table as code has it
 abbrev pub as_location : LocatedTable → TableLocation
