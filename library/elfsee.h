@@ -336,20 +336,20 @@ uint32_t elfsee_apply_lent(const uint8_t *file, size_t file_len, const struct el
 
 /* What an item of an image says. Items are sorted by it, and then by their keys. */
 enum {
-    ELFSEE_BASE = 0,       /* the load address: an address in memory less that in the file */
-    ELFSEE_DESCRIPTOR = 1, /* the first word of a static TLS descriptor */
-    ELFSEE_SYMBOL = 2,     /* of a symbol: the address that it is bound to */
-    ELFSEE_CALL = 3,       /* the same for calls, if that is another */
-    ELFSEE_MODULE = 4,     /* of the object that it is bound in: the module id */
-    ELFSEE_VALUE = 5,      /* its value in that object */
-    ELFSEE_OFFSET = 6,     /* its offset from the thread pointer */
-    ELFSEE_RESOLVER = 7    /* of a resolver: what it answers */
+    ELFSEE_IMAGE_BASE = 0,       /* the load address: an address in memory less that in the file */
+    ELFSEE_IMAGE_DESCRIPTOR = 1, /* the first word of a static TLS descriptor */
+    ELFSEE_IMAGE_SYMBOL = 2,     /* of a symbol: the address that it is bound to */
+    ELFSEE_IMAGE_CALL = 3,       /* the same for calls, if that is another */
+    ELFSEE_IMAGE_MODULE = 4,     /* of the object that it is bound in: the module id */
+    ELFSEE_IMAGE_VALUE = 5,      /* its value in that object */
+    ELFSEE_IMAGE_OFFSET = 6,     /* its offset from the thread pointer */
+    ELFSEE_IMAGE_RESOLVER = 7    /* of a resolver: what it answers */
 };
 
 /* A number that an image depends on besides the file. Any numbers are permitted; what they do not
  * say is not known. */
 struct elfsee_image_item {
-    uint32_t kind;  /* ELFSEE_BASE to ELFSEE_RESOLVER */
+    uint32_t kind;  /* ELFSEE_IMAGE_BASE to ELFSEE_IMAGE_RESOLVER */
     uint64_t key;   /* the index of a dynamic symbol, 0 for this object itself; of a resolver its address in
                        the file; otherwise 0 */
     uint64_t value;
@@ -537,13 +537,13 @@ uint32_t elfsee_hashed_symbols(const uint8_t *file, size_t file_len, const struc
 
 /* The tables of relocations that dynamic entries locate, in the order in which a loader applies them. */
 enum {
-    ELFSEE_RELR = 0,  /* relative relocations */
-    ELFSEE_REL = 1,   /* entries without addends */
-    ELFSEE_RELA = 2,  /* entries with addends */
-    ELFSEE_JMPREL = 3 /* those of the procedure linkage table, with addends or without */
+    ELFSEE_AT_RELR = 0,  /* relative relocations */
+    ELFSEE_AT_REL = 1,   /* entries without addends */
+    ELFSEE_AT_RELA = 2,  /* entries with addends */
+    ELFSEE_AT_JMPREL = 3 /* those of the procedure linkage table, with addends or without */
 };
 
-/* Opens a table of relocations that the file's dynamic entries locate, ELFSEE_RELR to ELFSEE_JMPREL, by the
+/* Opens a table of relocations that the file's dynamic entries locate, ELFSEE_AT_RELR to ELFSEE_AT_JMPREL, by the
  * program headers alone: runs the checks that a listing of a file without section headers runs up to the first
  * row, and sets `rows` before it. `rows->entry` says which rows they are: 24 bytes for
  * elfsee_next_relocations, 16 for elfsee_next_short_relocations, 8 for elfsee_next_relative_words. `rows`
@@ -551,7 +551,7 @@ enum {
  * ELFSEE_BY_SEGMENTS. `room` has the headers meanwhile.
  *  OK, REFUSED; ABSENT if they locate no such table, or an empty one, or there are none; BAD_CALL for
  *    limits outside their ranges, room of less than 64 bytes, and another table.
- * The table at ELFSEE_JMPREL may lie in that at ELFSEE_RELA. `asked` is at most what finding it costs, and the
+ * The table at ELFSEE_AT_JMPREL may lie in that at ELFSEE_AT_RELA. `asked` is at most what finding it costs, and the
  * budget. */
 uint32_t elfsee_located_relocations(const uint8_t *file, size_t file_len,
                                     const struct elfsee_limits *limits, uint32_t table,

@@ -1,11 +1,9 @@
 -- A table of relocations that dynamic entries locate, stage by stage.
-use Rattle.std.proofs.Common.{◌≡◌, ℕ, ◌+◌, ◌/◌, ◌≤◌, List, ◌++◌, Option, None, Some, Result, Ok, Err, refl, sym, subst, ap, ◌∙◌, arith}
-use Rattle.std.specs.Prelude.{option_map}
+use Rattle.std.proofs.Common.{◌≡◌, ℕ, ◌/◌, List, ◌++◌, Option, None, Some, Result, Ok, Err, refl, sym, subst, ap, ◌∙◌}
 use Rattle.elf_model.specs.Prelude.{LocatedTable, dynamic_segment_index, first_refusal, header_checks, load_checks, located_table, overlap_checks, p_filesz, p_offset, segment_at, segment_dynamic_checks}
 use Rattle.elf_model.specs.declared.causes.Refusal.{Refusal}
 use Rattle.elf_model.specs.declared.relocation_tables.RelocationTable.{RelocationTable}
-use Rattle.elf_source.specs.Source.{CountedState}
-use Rattle.elf_table.specs.Prelude.{CallReads, IsOfRead, RefusedBy, StoreState, dynamic_table_at, rows, strings}
+use Rattle.elf_table.specs.Prelude.{IsOfRead, RefusedBy, StoreState, dynamic_table_at, rows, strings}
 use Rattle.elf_table.specs.declared.fault.Fault.{Fault}
 use Rattle.elf_table.specs.declared.fault.Fault.TheVariants.{Refused, Source}
 use Rattle.elf_hash.proofs.SettleLaws.{checked_fails}
@@ -66,7 +64,7 @@ module _ (file : List ℕ) (table : RelocationTable) where
 
 module _ (file : List ℕ) (headers : ℕ) (table : RelocationTable) where
   -- a file that is not loaded
-  pub load_returns : (fault : Fault) (store : StoreState) → LoadsSegments file headers store (Err fault) → ReturnsTable {RowPosition} located_position (located_of file headers table) (Err fault)
+  pub load_returns : (fault : Fault) (store : StoreState) → LoadsSegments file headers store (Err fault) → ReturnsTable {X = RowPosition} located_position (located_of file headers table) (Err fault)
   load_returns (Refused refusal) store loads = λ other. let e = loads other in rw (e, located_of) refl
   load_returns (Source fault at) store loads = tt
 
@@ -75,7 +73,7 @@ module _ (file : List ℕ) (headers : ℕ) (table : RelocationTable) where
     loaded_is = rw (loads, located_of) refl
 
     -- the same of a loaded file, whose fault is that of the table
-    pub fault_returns : (fault : Fault) → ReturnsTable as_location (table_apart file table) (Err fault) → ReturnsTable {RowPosition} located_position (located_of file headers table) (Err fault)
+    pub fault_returns : (fault : Fault) → ReturnsTable as_location (table_apart file table) (Err fault) → ReturnsTable {X = RowPosition} located_position (located_of file headers table) (Err fault)
     fault_returns (Refused refusal) found = λ other. loaded_is ∙ found other
     fault_returns (Source fault at) found = tt
 

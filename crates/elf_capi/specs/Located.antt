@@ -1,5 +1,5 @@
 -- What a call has of the relocations of a file in memory that its dynamic entries locate.
-use Rattle.std.specs.Prelude.{ℕ, ◌≡◌, ◌≤◌, ◌<◌, ◌==◌, if◌then◌else◌, List, length, Option, None, Some, Result, Ok, Err, IfSome}
+use Rattle.std.specs.Prelude.{ℕ, ◌≡◌, ◌≤◌, ◌==◌, if◌then◌else◌, List, length, Option, None, Some, Result, Ok, Err, IfSome}
 use Rattle.elf_model.specs.Prelude.{IsBudgetRefusal}
 use Rattle.elf_model.specs.Style.{without_sections}
 use Rattle.elf_model.specs.declared.causes.Refusal.{Refusal}
@@ -26,10 +26,9 @@ table_of number =
 -- a table within a budget, in a file of the given size: a position before its first row; or that
 -- there is none; or the refusal, which is for lack of budget only if it costs more
 abbrev pub ReadsLocated : List ℕ → (headers : ℕ) → Option ℕ → (size : ℕ) → RelocationTable → Result (Option RowPosition) Refusal → Type 0
-ReadsLocated file headers budget size table (Ok None) = ReturnsTable located_position (located_of file headers table) (Ok None)
-ReadsLocated file headers budget size table (Ok (Some rows)) = ReturnsTable located_position (located_of file headers table) (Ok (Some rows))
+ReadsLocated file headers budget size table (Ok found) = ReturnsTable located_position (located_of file headers table) (Ok found)
 ReadsLocated file headers budget size table (Err refusal) =
-    ReturnsTable {RowPosition} located_position (located_of file headers table) (Err (Refused refusal))
+    ReturnsTable {X = RowPosition} located_position (located_of file headers table) (Err (Refused refusal))
     × (IsBudgetRefusal refusal → IsWanting budget (located_cost file headers) size refusal)
 
 -- limits in range, room for a header, and the number of a table

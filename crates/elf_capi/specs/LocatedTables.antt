@@ -9,7 +9,7 @@ use Rattle.elf_table.specs.declared.fault.Fault.{Fault}
 use Rattle.elf_table.specs.declared.fault.Fault.TheVariants.{Refused, Source}
 use Rattle.elf_table.specs.declared.segment_view.ExecutionView.{ExecutionView}
 use Rattle.elf_hash.specs.Loading.{segments_load_cost}
-use Rattle.elf_hash.specs.Prelude.{entries_asked, located_by}
+use Rattle.elf_hash.specs.Prelude.{entries_asked}
 use Rattle.elf_hash.specs.declared.relocation_tables.TableLocation.{TableLocation}
 use Rattle.elf_capi.specs.Rows.{rows_from_first}
 use Rattle.elf_capi.specs.declared.rows.RowPosition.{RowPosition}

@@ -57,7 +57,7 @@ if TYPE_CHECKING:
     import mmap
 
 __all__ = [
-    "ALL", "DYNAMIC", "HEADER", "NOTES", "RELOCS", "SECTIONS", "SEGMENTS", "SYMBOLS", "VERSIONS",
+    "ALL", "DYNAMIC", "HEADER", "JMPREL", "NOTES", "REL", "RELA", "RELOCS", "RELR", "SECTIONS", "SEGMENTS", "SYMBOLS", "VERSIONS",
     "Absent", "Cause", "Dynamic", "File", "Full", "Header", "ImageItems", "Lacking", "Layout", "Listing", "Located",
     "Lookup", "Member", "Missing", "Note", "Refused", "Relocation", "Resolved", "Section", "Segment", "Symbol", "SymbolVersion", "Unapplied",
     "VERSION", "Version", "VersionOfSymbol", "spelt",
@@ -73,6 +73,8 @@ __all__ += [
 # The parts of a listing; VERSIONS is one only with the names defined by GNU.
 HEADER, SECTIONS, SEGMENTS, SYMBOLS, RELOCS, NOTES, DYNAMIC, VERSIONS = (1 << bit for bit in range(8))
 ALL = 127
+# The tables of relocations that dynamic entries locate, in the order in which a loader applies them.
+RELR, REL, RELA, JMPREL = range(4)
 # The range of each limit, and its default.
 MOST_HEADERS, MOST_NAME, MOST_NUMBER = 65279, 4096, (1 << 64) - 1
 DEFAULT_HEADERS, DEFAULT_NAME = 4096, 256
@@ -759,8 +761,6 @@ def _layout_of(layout: Layout) -> Any:
 
 # The fields of a layout, in the order of the bits of what would help.
 _SORTS = ("sections", "define", "entries", "table", "thread")
-# The tables of relocations that dynamic entries locate, in the order in which a loader applies them.
-RELR, REL, RELA, JMPREL = range(4)
 
 
 def _image_items_of(items: ImageItems) -> Any:

@@ -10,42 +10,42 @@ pub use crate::raw::ImageItem;
 impl raw::ImageItem {
     /// Gives the load address: an address in memory less that in the file.
     pub fn base(address: u64) -> ImageItem {
-        ImageItem { kind: raw::BASE, key: 0, value: address }
+        ImageItem { kind: raw::IMAGE_BASE, key: 0, value: address }
     }
 
     /// Gives the first word of a static TLS descriptor.
     pub fn descriptor(word: u64) -> ImageItem {
-        ImageItem { kind: raw::DESCRIPTOR, key: 0, value: word }
+        ImageItem { kind: raw::IMAGE_DESCRIPTOR, key: 0, value: word }
     }
 
     /// Gives the address that the dynamic symbol of an index is bound to.
     pub fn symbol(index: u32, address: u64) -> ImageItem {
-        ImageItem { kind: raw::SYMBOL, key: index.into(), value: address }
+        ImageItem { kind: raw::IMAGE_SYMBOL, key: index.into(), value: address }
     }
 
     /// Gives the address that it is bound to for calls, if that is another.
     pub fn call(index: u32, address: u64) -> ImageItem {
-        ImageItem { kind: raw::CALL, key: index.into(), value: address }
+        ImageItem { kind: raw::IMAGE_CALL, key: index.into(), value: address }
     }
 
     /// Gives the module id of the object that it is bound in; of index 0, that of this object itself.
     pub fn module(index: u32, id: u64) -> ImageItem {
-        ImageItem { kind: raw::MODULE, key: index.into(), value: id }
+        ImageItem { kind: raw::IMAGE_MODULE, key: index.into(), value: id }
     }
 
     /// Gives the value that the symbol has in that object.
     pub fn value(index: u32, value: u64) -> ImageItem {
-        ImageItem { kind: raw::VALUE, key: index.into(), value }
+        ImageItem { kind: raw::IMAGE_VALUE, key: index.into(), value }
     }
 
     /// Gives its offset from the thread pointer; of index 0, that of this object's TLS block.
     pub fn offset(index: u32, offset: u64) -> ImageItem {
-        ImageItem { kind: raw::OFFSET, key: index.into(), value: offset }
+        ImageItem { kind: raw::IMAGE_OFFSET, key: index.into(), value: offset }
     }
 
     /// Gives what the resolver at an address of the file answers.
     pub fn resolver(address: u64, answer: u64) -> ImageItem {
-        ImageItem { kind: raw::RESOLVER, key: address, value: answer }
+        ImageItem { kind: raw::IMAGE_RESOLVER, key: address, value: answer }
     }
 }
 

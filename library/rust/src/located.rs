@@ -9,13 +9,13 @@ use crate::rows::{Relocations, Rows};
 #[repr(u32)]
 pub enum LocatedTable {
     /// Relative relocations, at DT_RELR.
-    Relr = raw::RELR,
+    Relr = raw::AT_RELR,
     /// Entries without addends, at DT_REL.
-    Rel = raw::REL,
+    Rel = raw::AT_REL,
     /// Entries with addends, at DT_RELA.
-    Rela = raw::RELA,
+    Rela = raw::AT_RELA,
     /// Those of the procedure linkage table, at DT_JMPREL, with or without addends.
-    Jmprel = raw::JMPREL,
+    Jmprel = raw::AT_JMPREL,
 }
 
 /// The relocation entries without addends of a table.

@@ -23,19 +23,19 @@ pub const ENTRY: u32 = 2;
 pub const TABLE: u32 = 3;
 pub const THREAD: u32 = 4;
 
-pub const BASE: u32 = 0;
-pub const DESCRIPTOR: u32 = 1;
-pub const SYMBOL: u32 = 2;
-pub const CALL: u32 = 3;
-pub const MODULE: u32 = 4;
-pub const VALUE: u32 = 5;
-pub const OFFSET: u32 = 6;
-pub const RESOLVER: u32 = 7;
+pub const IMAGE_BASE: u32 = 0;
+pub const IMAGE_DESCRIPTOR: u32 = 1;
+pub const IMAGE_SYMBOL: u32 = 2;
+pub const IMAGE_CALL: u32 = 3;
+pub const IMAGE_MODULE: u32 = 4;
+pub const IMAGE_VALUE: u32 = 5;
+pub const IMAGE_OFFSET: u32 = 6;
+pub const IMAGE_RESOLVER: u32 = 7;
 
-pub const RELR: u32 = 0;
-pub const REL: u32 = 1;
-pub const RELA: u32 = 2;
-pub const JMPREL: u32 = 3;
+pub const AT_RELR: u32 = 0;
+pub const AT_REL: u32 = 1;
+pub const AT_RELA: u32 = 2;
+pub const AT_JMPREL: u32 = 3;
 
 #[repr(C)]
 #[derive(Clone, Copy, Debug, Default, PartialEq, Eq)]

@@ -1,7 +1,6 @@
 -- The first segment of dynamic entries, and the table that its entries locate.
 use Rattle.std.proofs.Common.{ap, sym, ◌∙◌, arith}
 use Rattle.std.proofs.lemmas.Result.{err_from_is_err_and}
-use Rattle.elf_model.specs.Records.{segment_at}
 use Rattle.elf_table.specs.Tables.{TableRange}
 use Rattle.elf_table.proofs.Absent.{none-of}
 use Rattle.elf_table.proofs.LedgerLaws.{CallDid-as, CallDid-none, CallDid-stop}
