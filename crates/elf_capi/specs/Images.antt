@@ -29,8 +29,13 @@ GivesItems items (Some lent) =
     MayBorrowItems items × (given lent.numbers.now lent.copies.now ≡ given items.numbers.now items.copies.now)
 
 -- limits, room and items in their ranges
-abbrev MayUseItems : CallerLimits → CallerImageItems → (room : ℕ) → Type 0
+abbrev pub MayUseItems : CallerLimits → CallerImageItems → (room : ℕ) → Type 0
 MayUseItems limits items room = AreInRange limits room × MayBorrowItems items
+
+-- a call was made: its arguments are in range
+abbrev pub WasMade : CallStatus → Type 0
+WasMade BadCall = ⊥
+WasMade told = Unit {0}
 
 -- the effect of a call with its arguments; or they are out of range, and nothing is read and written
 abbrev pub ImagesInMemory : CallerLimits → CallerImageItems → (room window : ℕ) → List ℕ → List ℕ → CallEnd → CallStatus → Type 0

@@ -6,7 +6,7 @@ use Rattle.elf_model.specs.declared.causes.Refusal.{Refusal}
 use Rattle.elf_model.specs.declared.relocation_tables.RelocationTable.{RelocationTable}
 use Rattle.elf_model.specs.declared.relocation_tables.RelocationTable.TheVariants.{Jmprel, Rel, Rela, Relr}
 use Rattle.elf_table.specs.declared.fault.Fault.TheVariants.{Refused}
-use Rattle.elf_capi.specs.LocatedTables.{ReturnsTable, located_cost, located_of, located_position}
+use Rattle.elf_capi.specs.LocatedTables.{ReturnsTable, located_table_cost, located_of, located_position}
 use Rattle.elf_capi.specs.Limits.{AreInRange, budget_of, headers_of}
 use Rattle.elf_capi.specs.Ends.{IsOpenedTable}
 use Rattle.elf_capi.specs.Wants.{IsWanting}
@@ -15,8 +15,8 @@ use Rattle.elf_capi.specs.declared.limits.CallerLimits.{CallerLimits}
 use Rattle.elf_capi.specs.declared.rows.RowPosition.{RowPosition}
 
 -- the table of a number, in the order in which a loader applies them
-abbrev pub table_of : ℕ → Option RelocationTable
-table_of number =
+abbrev pub numbered_table : ℕ → Option RelocationTable
+numbered_table number =
     if number == 0 then Some Relr
     else if number == 1 then Some Rel
     else if number == 2 then Some Rela
@@ -29,11 +29,11 @@ abbrev pub ReadsLocated : List ℕ → (headers : ℕ) → Option ℕ → (size 
 ReadsLocated file headers budget size table (Ok found) = ReturnsTable located_position (located_of file headers table) (Ok found)
 ReadsLocated file headers budget size table (Err refusal) =
     ReturnsTable {X = RowPosition} located_position (located_of file headers table) (Err (Refused refusal))
-    × (IsBudgetRefusal refusal → IsWanting budget (located_cost file headers) size refusal)
+    × (IsBudgetRefusal refusal → IsWanting budget (located_table_cost file headers) size refusal)
 
 -- limits in range, room for a header, and the number of a table
 abbrev MayOpenLocated : CallerLimits → (room number : ℕ) → RelocationTable → Type 0
-MayOpenLocated limits room number table = AreInRange limits room × (table_of number ≡ Some table)
+MayOpenLocated limits room number table = AreInRange limits room × (numbered_table number ≡ Some table)
 
 -- what a call opens: the section header fields of the file's header are set to zero
 abbrev pub OpensLocated : List ℕ → CallerLimits → (room number : ℕ) → Option (Result (Option RowPosition) Refusal) → Type 0
@@ -50,5 +50,5 @@ pub record HasLocated (file : List ℕ) (limits : CallerLimits) (room number sta
   pub told : CallEnd
   pub tells : IsOpenedTable status old new told opened
   pub same : (end.cause ≡ told.cause) × (end.at ≡ told.at) × (end.written ≡ told.written) × (end.none ≡ told.none)
-  pub cost : end.asked ≤ located_cost (without_sections file) (headers_of limits room)
+  pub cost : end.asked ≤ located_table_cost (without_sections file) (headers_of limits room)
   pub budget : IfSome (budget_of limits) (λ bytes. end.asked ≤ bytes)

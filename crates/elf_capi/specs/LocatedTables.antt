@@ -43,8 +43,8 @@ located_of file headers table = elim (first_refusal (header_checks file ++ load_
 ]
 
 -- how many bytes that reads at most: the headers, and the dynamic entries
-abbrev pub located_cost : List ℕ → (headers : ℕ) → ℕ
-located_cost file headers = segments_load_cost file headers + entries_asked file
+abbrev pub located_table_cost : List ℕ → (headers : ℕ) → ℕ
+located_table_cost file headers = segments_load_cost file headers + entries_asked file
 
 -- the same for a source of this size, for any bytes
 abbrev pub located_bytes : (size headers : ℕ) → ℕ
@@ -73,5 +73,5 @@ FindsLocatedIn view table old new result =
 
 -- WHAT IS FOUND in a file, if it is known
 pub record FindsLocated (file : List ℕ) (headers : ℕ) (table : RelocationTable) (old new : CountedState) (result : Result (Option RowPosition) Fault) : Type 0 where
-  pub costs : CallReads old new (fault_of_result result) (located_cost file headers)
+  pub costs : CallReads old new (fault_of_result result) (located_table_cost file headers)
   pub tells : ReturnsTable located_position (located_of file headers table) result

@@ -1,5 +1,6 @@
 //! The image of a segment of a file in memory, written to memory of the caller.
 ghost use Rattle.std.specs.Prelude.{◌≡◌, ◌≤◌, length};
+ghost use Rattle.elf_capi.specs.Images.{WasMade};
 
 use crate::call_status::{CallStatus, status_from};
 use crate::file_source::file_within;
@@ -23,6 +24,7 @@ pub fn write_segment(
     requires { 16 ≤ length window.old }
     ensures slots { store.new.slots ≡ store.old.slots }
     ensures within { result ≤ length out.old }
+    ensures made { WasMade outcome.new.told }
 {
     let room = out.len();
     let mut src = file_within(file, wanted.budget);

@@ -1,8 +1,8 @@
 //! The relocations of a file in memory that its dynamic entries locate.
 ghost use Rattle.std.specs.Prelude.{◌≡◌, ◌≤◌, IfSome, length};
 ghost use Rattle.elf_model.specs.Style.{without_sections};
-ghost use Rattle.elf_capi.specs.LocatedTables.{located_cost};
-ghost use Rattle.elf_capi.specs.Located.{ReadsLocated, table_of};
+ghost use Rattle.elf_capi.specs.LocatedTables.{located_table_cost};
+ghost use Rattle.elf_capi.specs.Located.{ReadsLocated, numbered_table};
 
 use crate::counts::short;
 use crate::file_source::file_within;
@@ -26,7 +26,7 @@ pub fn open_located(
 ) -> Result<Option<RowPosition>, Refusal>
     ensures reads { ReadsLocated (without_sections file.now) store.old.slots budget
         (length file.now) table result }
-    ensures cost { asked.new ≤ located_cost (without_sections file.now) store.old.slots }
+    ensures cost { asked.new ≤ located_table_cost (without_sections file.now) store.old.slots }
     ensures budget { IfSome budget (λ bytes. asked.new ≤ bytes) }
 {
     let mut src = file_within(file, budget);
@@ -44,7 +44,7 @@ pub fn open_located(
 /// Returns the table of a number, in the order in which a loader applies them: 0 at DT_RELR, 1 at
 /// DT_REL, 2 at DT_RELA, 3 at DT_JMPREL.
 pub fn relocation_table(number: u32) -> Option<RelocationTable>
-    ensures { result ≡ table_of number }
+    ensures { result ≡ numbered_table number }
 {
     match number {
         0 => Some(RelocationTable::Relr),

@@ -2,7 +2,7 @@
 ghost use Rattle.std.specs.Prelude.{◌≡◌, ◌≤◌, IfSome, length};
 ghost use Rattle.elf_model.specs.Style.{without_sections};
 ghost use Rattle.elf_capi.specs.Prelude.{IsRelocationWord, IsShortEntry, ReadsNext, budget_of, headers_of};
-ghost use Rattle.elf_capi.specs.LocatedTables.{located_cost};
+ghost use Rattle.elf_capi.specs.LocatedTables.{located_table_cost};
 ghost use Rattle.elf_capi.specs.Located.{HasLocated, OpensLocated};
 
 use elf_capi::{
@@ -52,7 +52,7 @@ fn open_in(
 ) -> Option<Result<Option<RowPosition>, Refusal>>
     requires { asked.old ≡ 0 }
     ensures opens { OpensLocated file.now limits.now (length room.old) table result }
-    ensures cost { asked.new ≤ located_cost (without_sections file.now)
+    ensures cost { asked.new ≤ located_table_cost (without_sections file.now)
         (headers_of limits.now (length room.old)) }
     ensures budget { IfSome (budget_of limits.now) (λ bytes. asked.new ≤ bytes) }
 {

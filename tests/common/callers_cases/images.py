@@ -6,7 +6,6 @@ import struct
 import sys
 
 import changed_files
-import listed_rows
 from callers_cases.counted import file_content, run
 from callers_cases.listings import refusal_line
 from testing import TOP
@@ -16,7 +15,7 @@ import images  # noqa: E402
 
 FIELDS = {"sym": "symbols", "call": "calls", "mod": "modules", "dtp": "values", "tp": "offsets", "ires": "resolvers",
           "copy": "copies"}
-# An offset of `located` that wraps, a word of bits without an address before it, and a table of entries without addends.
+# Changes of the worked file: words and tables of each form, some of which are refused.
 TURNED = {"a last address": (0x150, struct.pack("<QQ", 2 ** 64 - 8, 3)), "an address past the last": (0x150, struct.pack("<Q", 2 ** 64 - 2)),
           "a word of bits first": (0x150, struct.pack("<Q", 5)), "no table": (0x2b0, struct.pack("<Q", 99)),
           "entries without addends": (0x2f0, struct.pack("<6Q", 17, 0x160, 18, 0x30, 19, 16)),
@@ -75,22 +74,16 @@ def located_lines(elfsee, content):
 
 
 def compare_located(counts, elfsee, program, rust, path, content, name):
-    """The rows are those of the listing of a file without section headers, but for the names of symbols."""
+    """The rows are those of the listing of a file without section headers, but for names."""
     with open(path, "wb") as file:
         file.write(changed_files.without_sections(content))
     listed = run(program, "show", "--gnu", "--by-segments", "--only", "relocs", path)[1].decode().split("\n")[:-1]
-    rows, lines = located_lines(elfsee, content), []
-    machine = struct.unpack_from("<H", content, 18)[0]
-    for row in rows:
-        if isinstance(row, str):
-            lines.append(row)
-            continue
-        is_named = machine == listed_rows.X86_64 and row.type is not None
-        kind = listed_rows.named("type of an R line", row.type, "#%d") if is_named else "#%s" % row.type
-        kind = "RELR" if row.type is None else kind
-        addend = "-" + " " * 16 if row.addend is None else ("-" if row.addend < 0 else "+") + "%016x" % abs(row.addend)
-        lines.append("%016x %-10s %08x %s" % (row.offset, kind, row.symbol, addend))
-    told = [line if line.startswith("!") else line[8:62] for line in listed]
+    rows = located_lines(elfsee, content)
+    lines = [row if isinstance(row, str) else "%016x %s %08x %s" % (
+        row.offset, row.type is None, row.symbol, "-" + " " * 16 if row.addend is None else
+        ("-" if row.addend < 0 else "+") + "%016x" % abs(row.addend)) for row in rows]
+    told = [line if line.startswith("!") else "%s %s %s" % (line[8:24], line[25:35].strip() == "RELR", line[36:62])
+            for line in listed]
     # A fault of a name ends the listing alone.
     if told and told[-1].startswith("!") and lines[-1:] != told[-1:]:
         told, lines = told[:-1], lines[:len(told) - 1]

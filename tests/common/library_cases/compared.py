@@ -193,10 +193,10 @@ class Compared:
         rows = [(place, int(symbol), "-" + " " * 16 if addend == "-" else f"{'-' if int(addend) < 0 else '+'}{abs(int(addend)):016x}")
                 for _, place, kind, symbol, addend in said if kind != "-"]
         relative = [line for line in listed.split("\n") if line[25:29] == "RELR"]
-        wrong = same(bool(relative), any(kind == "-" for _, _, kind, _, _ in said))
-        wanted = wanted[len(relative):]
-        # A fault of a name ends the listing alone.
-        return wrong or same(wanted, rows[:len(wanted)] if "\n! " in "\n" + listed else rows)
+        is_refused, wanted = "\n! " in "\n" + listed, wanted[len(relative):]
+        # A fault of a word or of a name ends the listing alone.
+        wrong = "" if is_refused else same(bool(relative), any(kind == "-" for _, _, kind, _, _ in said))
+        return wrong or same(wanted, rows[:len(wanted)] if is_refused else rows)
 
     def cut_wrong(self, path, status, numbers, text, wanted):
         """What is wrong with a listing within a budget, compared with the program's: each is whole, or a prefix of whole

@@ -3,7 +3,7 @@ use Rattle.std.proofs.Common.{rules, ◌≡◌, length, Ok, Err, refl, ◌∙◌
 use Rattle.elf_model.specs.Style.{without_sections}
 use Rattle.elf_model.proofs.StyleLemmas.{view_tells_of_none}
 use Rattle.elf_table.specs.declared.fault.Fault.TheVariants.{Refused as Refuses}
-use Rattle.elf_capi.specs.LocatedTables.{located_cost}
+use Rattle.elf_capi.specs.LocatedTables.{located_table_cost}
 use Rattle.elf_capi.proofs.BudgetLaws.{wanting_read}
 use Rattle.elf_capi.proofs.located_call.open_located.Goals as goal
 
@@ -31,7 +31,7 @@ returns-in-Err-Refused-clause-reads c =
     let sized = c.file_within-src.result.seen.sized file c.file_within-src.ensures.known in
     let found : c.located_rows-found.result ≡ Err (Refuses c.in-Err-Refused.refusal) = search rules in
     let finds = rw (found) at (c.located_rows-found.ensures.did.known shown known (view_tells_of_none file).1) in
-    let cost = located_cost shown c.args.store.now.slots in (
+    let cost = located_table_cost shown c.args.store.now.slots in (
       finds.tells,
       wanting_read c.args.budget c.mask_section_headers.new.self c.located_rows-found.new.src cost (length file) c.in-Err-Refused.refusal (mask.same_limit ∙ c.file_within-src.ensures.limit)
           (mask.same_asked ∙ c.file_within-src.ensures.unasked) (omega (arith, sized, mask.same_size)) finds.costs.says,
