@@ -1,5 +1,5 @@
-/* elfsee: lists ELF64 files, looks up names in them, applies relocations and reads their rows, and the
- * members of archives, in buffers that the caller provides.
+/* elfsee: lists ELF64 files, looks up names in them, applies relocations, writes segments as a loader leaves
+ * them, and reads the rows of files and the members of archives, in buffers that the caller provides.
  *
  * WHAT IS PROMISED is proved: the contract of each function is in the crate elfsee_c, and the
  * comment on a function here says it in prose. For any bytes of a file and any numbers in the
@@ -11,10 +11,10 @@
  *    call runs: no other thread, and for a mapped file no other process. If a mapped file is
  *    truncated while the call runs, the process is ended (SIGBUS): read a file that may change into
  *    memory first.
- *  - `room` and `out` point to the stated number of writable bytes; these overlap neither each other,
+ *  - `room`, `window` and `out` point to the stated number of writable bytes; these overlap neither each other,
  *    nor the file, nor a struct or a name that is passed. They need not be initialised.
  *  - Each pointer is not NULL and is aligned for its type. Only the arguments `file`, `room`, `out`, `name`
- *    and `names`, and the lists of an elfsee_layout, may be NULL, if their lengths are 0 (tested, not
+ *    and `names`, and the lists of an elfsee_layout and of elfsee_image_items, may be NULL, if their lengths are 0 (tested, not
  *    proved); another pointer in a struct may not.
  *  - Each struct that is passed is initialised, with any values, even one that is only written.
  *  - No call is made from a signal handler.
@@ -334,6 +334,90 @@ uint32_t elfsee_apply_lent(const uint8_t *file, size_t file_len, const struct el
                            size_t room_len, uint8_t *out, size_t out_len,
                            struct elfsee_missing *missing, struct elfsee_end *end);
 
+/* What an item of an image says. Items are sorted by it, and then by their keys. */
+enum {
+    ELFSEE_IMAGE_BASE = 0,       /* the load address: an address in memory less that in the file */
+    ELFSEE_IMAGE_DESCRIPTOR = 1, /* the first word of a static TLS descriptor */
+    ELFSEE_IMAGE_SYMBOL = 2,     /* of a symbol: the address that it is bound to */
+    ELFSEE_IMAGE_CALL = 3,       /* the same for calls, if that is another */
+    ELFSEE_IMAGE_MODULE = 4,     /* of the object that it is bound in: the module id */
+    ELFSEE_IMAGE_VALUE = 5,      /* its value in that object */
+    ELFSEE_IMAGE_OFFSET = 6,     /* its offset from the thread pointer */
+    ELFSEE_IMAGE_RESOLVER = 7    /* of a resolver: what it answers */
+};
+
+/* A number that an image depends on besides the file. Any numbers are permitted; what they do not
+ * say is not known. */
+struct elfsee_image_item {
+    uint32_t kind;  /* ELFSEE_IMAGE_BASE to ELFSEE_IMAGE_RESOLVER */
+    uint64_t key;   /* the index of a dynamic symbol, 0 for this object itself; of a resolver its address in
+                       the file; otherwise 0 */
+    uint64_t value;
+};
+
+/* The bytes of an object that a program copies: those of the object that the symbol is bound to. */
+struct elfsee_copied {
+    uint32_t index;  /* of the dynamic symbol */
+    uint32_t digits; /* 0; otherwise `bytes` are hexadecimal digits, two for each byte */
+    const uint8_t *bytes;
+    size_t bytes_len;
+};
+
+/* What an image depends on besides the file: numbers, in ascending order of their kinds, those of one
+ * kind by their keys; and copied objects, by their indexes. A list has no duplicates, and a list of
+ * length 0 may be NULL. */
+struct elfsee_image_items {
+    const struct elfsee_image_item *numbers;
+    size_t numbers_len;
+    const struct elfsee_copied *copies;
+    size_t copies_len;
+    uint32_t partial; /* 1: an entry that lacks an item changes nothing, and a symbol that another object
+                         may define lacks its item also if it is weak, or defined here; 0: the image is
+                         refused */
+    uint32_t none;    /* not used */
+};
+
+/* Writes the bytes that a LOAD segment, by its index, has in memory once a loader has relocated the file, an
+ * executable or a shared object for x86-64: as many as its `memsz`. `room` has the headers meanwhile, and
+ * `window`, of 16 bytes or more, a part of the segment: the entries are read once, and once more for each
+ * window that they change, so a window of `memsz` bytes is the fastest.
+ *  OK: out[0..end->written) is the segment. REFUSED: for `end->cause` at `end->at`, by the first
+ *    check that fails, before a byte is written; nothing is promised about the contents of `out`, and
+ *    `written` is 0. FULL: `out` has fewer bytes than the segment.
+ *  BAD_CALL: exactly for limits outside their ranges, room of less than 64 bytes, a window of less than
+ *    16, an item that is not above the one before it, and a `partial` of more than 1.
+ * Always: written <= out_len. Which bytes are written is tested, not proved, and so is it that `asked` is at
+ * most the budget. */
+uint32_t elfsee_image(const uint8_t *file, size_t file_len, const struct elfsee_limits *limits,
+                      uint16_t segment, const struct elfsee_image_items *items, uint8_t *room,
+                      size_t room_len, uint8_t *window, size_t window_len, uint8_t *out,
+                      size_t out_len, struct elfsee_end *end);
+
+/* A relocation entry that lacks an item. */
+struct elfsee_lacking {
+    uint64_t at;     /* its file offset */
+    uint64_t place;  /* its address in the file */
+    uint32_t type;   /* of the relocation */
+    uint32_t symbol; /* the index of its symbol */
+    uint32_t cause;  /* ELFSEE_UNDEFINED: it lacks an item of its symbol; ELFSEE_UNPLACED: one of the file's */
+    uint32_t none;   /* 0 */
+};
+
+/* Reads up to `out_len` next entries that lack an item, in the order in which a loader applies entries,
+ * and adds to `index` how many there are in `out`. `index` is how many come before them: begin with 0.
+ * Each call goes through the entries from the first, so an `out` with room for all is the fastest.
+ *  OK: at least one. ABSENT: none is left, or `out` has no room. REFUSED: for `end->cause` at
+ *    `end->at`, by the first check that fails, of the file or of an entry up to the last one in `out`.
+ *    If it is not OK, `index` is unchanged.
+ *  BAD_CALL: exactly for limits outside their ranges, room of less than 64 bytes, an item that is not
+ *    above the one before it, and a `partial` of more than 1, which otherwise does not matter.
+ * Which entries there are is tested, not proved. */
+uint32_t elfsee_next_lacking(const uint8_t *file, size_t file_len,
+                             const struct elfsee_limits *limits,
+                             const struct elfsee_image_items *items, uint8_t *room, size_t room_len,
+                             uint64_t *index, struct elfsee_lacking *out, size_t out_len,
+                             struct elfsee_end *end);
+
 /* The file header, field by field (gABI, ELF Header). */
 struct elfsee_header {
     uint64_t entry, phoff, shoff;
@@ -358,6 +442,11 @@ struct elfsee_segment {
 struct elfsee_relocation {
     uint64_t offset, info;
     int64_t addend;
+};
+
+/* A relocation entry without an addend, field by field (gABI, Relocation). */
+struct elfsee_short_relocation {
+    uint64_t offset, info;
 };
 
 /* A dynamic entry, field by field (gABI, Dynamic Section). */
@@ -446,6 +535,29 @@ uint32_t elfsee_hashed_symbols(const uint8_t *file, size_t file_len, const struc
                                uint32_t flags, uint8_t *room, size_t room_len, struct elfsee_rows *rows,
                                struct elfsee_end *end);
 
+/* The tables of relocations that dynamic entries locate, in the order in which a loader applies them. */
+enum {
+    ELFSEE_AT_RELR = 0,  /* relative relocations */
+    ELFSEE_AT_REL = 1,   /* entries without addends */
+    ELFSEE_AT_RELA = 2,  /* entries with addends */
+    ELFSEE_AT_JMPREL = 3 /* those of the procedure linkage table, with addends or without */
+};
+
+/* Opens a table of relocations that the file's dynamic entries locate, ELFSEE_AT_RELR to ELFSEE_AT_JMPREL, by the
+ * program headers alone: runs the checks that a listing of a file without section headers runs up to the first
+ * row, and sets `rows` before it. `rows->entry` says which rows they are: 24 bytes for
+ * elfsee_next_relocations, 16 for elfsee_next_short_relocations, 8 for elfsee_next_relative_words. `rows`
+ * has no string table: the symbols that they refer to are those of elfsee_hashed_symbols with
+ * ELFSEE_BY_SEGMENTS. `room` has the headers meanwhile.
+ *  OK, REFUSED; ABSENT if they locate no such table, or an empty one, or there are none; BAD_CALL for
+ *    limits outside their ranges, room of less than 64 bytes, and another table.
+ * The table at ELFSEE_AT_JMPREL may lie in that at ELFSEE_AT_RELA. `asked` is at most what finding it costs, and the
+ * budget. */
+uint32_t elfsee_located_relocations(const uint8_t *file, size_t file_len,
+                                    const struct elfsee_limits *limits, uint32_t table,
+                                    uint8_t *room, size_t room_len, struct elfsee_rows *rows,
+                                    struct elfsee_end *end);
+
 /* Opens the version words of the symbols of a section, as those calls open their rows: one for each symbol
  * of the table that it links to, as far as it has words, in the same order. `rows` has no string table: the
  * name of a version is that of the first definition, or else of the first needed version, that has its
@@ -475,6 +587,15 @@ size_t elfsee_next_dynamic(const uint8_t *file, size_t file_len, struct elfsee_r
 
 size_t elfsee_next_version_words(const uint8_t *file, size_t file_len, struct elfsee_rows *rows,
                                  struct elfsee_version_word *out, size_t out_len);
+
+/* The same for relocation entries without addends, and for the words of relative relocations. An even word is
+ * the address of a relocation. In an odd one, the bit i of 1 to 63 is set if there is a relocation
+ * 8 * (i - 1) bytes after the first address that the words before it do not cover: the one after an even word
+ * is 8 more than the word, and a word of bits covers 504 bytes. */
+size_t elfsee_next_short_relocations(const uint8_t *file, size_t file_len, struct elfsee_rows *rows,
+                                     struct elfsee_short_relocation *out, size_t out_len);
+size_t elfsee_next_relative_words(const uint8_t *file, size_t file_len, struct elfsee_rows *rows,
+                                  uint64_t *out, size_t out_len);
 
 /* A position in a walk over the records of version definitions or needs: plain numbers, like those of
  * elfsee_rows. If `size` is 0, `at` may be outside the file. */
@@ -653,10 +774,15 @@ typedef struct ::elfsee_lent_section lent_section;
 typedef struct ::elfsee_lent_name lent_name;
 typedef struct ::elfsee_layout layout;
 typedef struct ::elfsee_missing missing;
+typedef struct ::elfsee_image_item image_item;
+typedef struct ::elfsee_copied copied;
+typedef struct ::elfsee_image_items image_items;
+typedef struct ::elfsee_lacking lacking;
 typedef struct ::elfsee_header header;
 typedef struct ::elfsee_section section;
 typedef struct ::elfsee_segment segment;
 typedef struct ::elfsee_relocation relocation;
+typedef struct ::elfsee_short_relocation short_relocation;
 typedef struct ::elfsee_dynamic dynamic;
 typedef struct ::elfsee_version_word version_word;
 typedef struct ::elfsee_version_record version_record;

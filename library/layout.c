@@ -114,6 +114,29 @@ static void versions(void) {
 }
 
 static void headers(void) {
+    WHOLE(elfsee_image_item);
+    FIELD(elfsee_image_item, kind);
+    FIELD(elfsee_image_item, key);
+    FIELD(elfsee_image_item, value);
+    WHOLE(elfsee_copied);
+    FIELD(elfsee_copied, index);
+    FIELD(elfsee_copied, digits);
+    FIELD(elfsee_copied, bytes);
+    FIELD(elfsee_copied, bytes_len);
+    WHOLE(elfsee_image_items);
+    FIELD(elfsee_image_items, numbers);
+    FIELD(elfsee_image_items, numbers_len);
+    FIELD(elfsee_image_items, copies);
+    FIELD(elfsee_image_items, copies_len);
+    FIELD(elfsee_image_items, partial);
+    FIELD(elfsee_image_items, none);
+    WHOLE(elfsee_lacking);
+    FIELD(elfsee_lacking, at);
+    FIELD(elfsee_lacking, place);
+    FIELD(elfsee_lacking, type);
+    FIELD(elfsee_lacking, symbol);
+    FIELD(elfsee_lacking, cause);
+    FIELD(elfsee_lacking, none);
     WHOLE(elfsee_header);
     FIELD(elfsee_header, entry);
     FIELD(elfsee_header, phoff);
@@ -163,6 +186,9 @@ static void rows(void) {
     FIELD(elfsee_relocation, offset);
     FIELD(elfsee_relocation, info);
     FIELD(elfsee_relocation, addend);
+    WHOLE(elfsee_short_relocation);
+    FIELD(elfsee_short_relocation, offset);
+    FIELD(elfsee_short_relocation, info);
     WHOLE(elfsee_dynamic);
     FIELD(elfsee_dynamic, tag);
     FIELD(elfsee_dynamic, value);

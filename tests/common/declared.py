@@ -15,11 +15,12 @@ OF_RUST = {"u8": "uint8_t", "u16": "uint16_t", "u32": "uint32_t", "u64": "uint64
 IN_C = {"LookupFields": "found", "CallerLimits": "limits", "CallerItem": "item", "ByteRange": "range", "RowPosition": "rows",
         "NotePosition": "notes", "MemberPosition": "members", "MemberRow": "member", "CallerLayout": "layout",
         "CallerMissing": "missing", "LentSection": "lent_section", "LentName": "lent_name",
-        "CallEnd": "end", "ApplyCall": "job", "Versym": "version_word",
+        "CallerImageItems": "image_items", "NumberItem": "image_item", "CopyItem": "copied", "LackingRow": "lacking",
+        "ShortEntry": "short_relocation", "CallEnd": "end", "ApplyCall": "job", "Versym": "version_word",
         "VersionRecordPosition": "version_records", "RecordRow": "version_record", "Ehdr": "header", "Shdr": "section",
         "Phdr": "segment", "Sym": "symbol", "Rela": "relocation", "Dyn": "dynamic"}
 # Fields that C calls `kind` too; each other `kind` of the crate is C's `type`.
-KINDS = ("elfsee_item", "elfsee_version_record", "elfsee_version_records")
+KINDS = ("elfsee_item", "elfsee_image_item", "elfsee_version_record", "elfsee_version_records")
 
 
 # Fields of the records that C gives another name; the others lose what is before the first `_`.

@@ -31,6 +31,7 @@ import made_archives
 from callers_cases.counted import LIBRARY, Counts, asked_of, file_content, run
 from callers_cases.files import (files_of_the_machine, long_names, many_rows, two_string_tables, versioned_files,
                                  without_sections)
+from callers_cases.images import check_images
 from callers_cases.listings import compare_copies, compare_file, members_as_lines
 from callers_cases.module import (check_arguments, check_budgets, check_collected, check_empty, check_entries,
                                   check_kinds, check_opened, check_places, check_pointers, check_rooms,
@@ -99,6 +100,7 @@ def check_all(counts, program, library, folder, words):
     check_threads(counts, elfsee, "/bin/ls")
     check_rooms(counts, elfsee, "/bin/ls")
     check_budgets(counts, elfsee, ["/bin/ls", *fixtures[-3:], versions[0]])
+    check_images(counts, elfsee, program, rust.get("images"), folder, ["/bin/ls", *made[:2], *versions[:1]])
     check_places(counts, shared, folder)
     check_wheel(counts, shared, folder)
     check_spaces(counts, library, folder)

@@ -134,4 +134,5 @@ def main():
     return counts.end()
 
 
-sys.exit(main())
+if __name__ == "__main__":
+    sys.exit(main())

@@ -37,6 +37,7 @@ sys.dont_write_bytecode = True
 sys.path[:0] = [os.path.join(os.path.dirname(os.path.realpath(__file__)), "..", name) for name in ("common", "again", "../bench")]
 import asked_of_files
 import changed_files
+import images
 import made_archives
 import made_files as made_objects
 from library_cases.compared import Built, Calls, Compared, items_of, words_to_resolve
@@ -90,6 +91,28 @@ def compare_segments(counts, compared, folder, path):
         wrong = wrong or compared.resolve(copy, text)
     wrong = wrong or compared.hashed(copy)
     counts.case(f"{path.replace(folder, '')} without section headers", wrong)
+
+
+def compare_images(counts, compared, folder, paths):
+    """Images of the worked file of tests/gate/images.py, and of files; what they lack, and the relocations that dynamic
+    entries locate."""
+    path = os.path.join(folder, "image")
+    for name, changes, words, segment, wanted in images.CASES:
+        content = bytearray(images.small_file())
+        for at, change in changes.items():
+            content[at:at + len(change)] = change
+        write(path, content)
+        wrong = ""
+        for window in (16, 40, 4096):
+            wrong = wrong or compared.image(path, segment, list(words), window, wanted)
+        counts.case(f"image: {name}", wrong or compared.lacking(path, list(words), 1) or compared.located(path))
+    for each in paths:
+        write(path, changed_files.without_sections(open(each, "rb").read()))
+        wrong = compared.lacking(path, [], 5) or compared.lacking(path, ["base=0x1000"], 4096) or compared.located(path)
+        for segment in range(12):
+            for words in (["--leave", "base=0x7f0000000000"], ["base=0x7f0000000000"]):
+                wrong = wrong or compared.image(path, segment, words, 1 << 16)
+        counts.case(f"{each}: images", wrong)
 
 
 def compare_asked(counts, compared, path, name):
@@ -403,6 +426,7 @@ def check_calls(counts, built, program, folder, given):
     for path in [*samples, *others, target, library, *compiled]:
         compare_file(counts, compared, path, os.path.basename(path))
     compare_limits(counts, compared, library)
+    compare_images(counts, compared, folder, [library, "/bin/ls", *others[:2]])
     compare_archives(counts, compared, folder, asked_of_files.static_libraries()[:FILES])
     works = [(compare_file, path, path.replace(folder, "")) for path in [*members, *machine]]
     works += [(compare_segments, folder, path) for path in [library, *machine[::3]]]

@@ -12,5 +12,7 @@ pub mod BudgetLaws
 pub mod HashedCallLaws
 pub mod ItemLaws
 pub mod LackLaws
+pub mod ImageLaws
+pub mod LocatedLaws
 pub mod ListingLaws
 pub mod NameLaws

@@ -10,9 +10,11 @@ pub mod Causes
 pub mod DynamicTables
 pub mod Ends
 pub mod Hashed
+pub mod LocatedTables
 pub mod ListedEntries
 pub mod TableOpenings
 pub mod Rows
+pub mod RelocationRows
 pub mod SegmentDynamic
 pub mod VersionRecords
 pub mod Applied
@@ -33,4 +35,6 @@ pub mod Told
 pub mod Wants
 pub mod Within
 pub mod Words
+pub mod Located
+pub mod Images
 pub mod Prelude

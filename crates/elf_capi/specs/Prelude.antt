@@ -13,6 +13,7 @@ pub use Rattle.elf_capi.specs.LentLayouts.{CannotBeKnown, ExplainsTold, MayBorro
 pub use Rattle.elf_capi.specs.Limits.{AreCaps, AreInRange, budget_of, headers_of}
 pub use Rattle.elf_capi.specs.ListedEntries.{ListsWithin, ReadsListed, all_listed}
 pub use Rattle.elf_capi.specs.Queries.{IsPermitted, asks_of, wanted_by}
+pub use Rattle.elf_capi.specs.RelocationRows.{IsRelocationWord, IsShortEntry}
 pub use Rattle.elf_capi.specs.Resolved.{IsResolved, Resolves, ResolvesIn, ReturnsResolved, cut_number, file_of, nothing_resolved}
 pub use Rattle.elf_capi.specs.Rows.{ReadsNext, StepsRows, next_at, rows_from_first}
 pub use Rattle.elf_capi.specs.SegmentDynamic.{ReadsSegmentDynamic}

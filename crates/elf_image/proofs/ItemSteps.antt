@@ -6,7 +6,7 @@ use Rattle.elf_model.specs.ImageItems.{bytes_for}
 use Rattle.elf_model.specs.Placing.{address_in}
 use Rattle.elf_layout.specs.Prelude.{FindsKey}
 use Rattle.elf_layout.proofs.LayoutSteps.{address_in-hit, address_in-miss}
-use Rattle.elf_image.specs.Items.{bytes_from, copies_of, copy_bytes, copy_index, copy_size, of_kind, item_rank, item_rank_of}
+use Rattle.elf_image.specs.Items.{bytes_from, copied, copies_of, copy_bytes, copy_index, copy_size, of_kind, item_rank, item_rank_of}
 use Rattle.elf_image.specs.declared.image_items.CopyBytes.{CopyBytes}
 use Rattle.elf_image.specs.declared.image_items.CopyItem.{CopyItem}
 use Rattle.elf_image.specs.declared.image_items.NumberItem.{NumberItem}
@@ -70,7 +70,7 @@ number_absent items kind key i found = found_none items kind key no_number other
 
 -- the same of copied objects
 copy_first : (items : List CopyItem) (index i : ℕ) (d : CopyItem) → i < length items → copy_index (get_or items i d) ≡ index
-    → ((k : ℕ) → k < i → copy_index (get_or items k d) ≢ index) → bytes_for (copies_of items) index ≡ Some (copy_bytes (get_or items i d).bytes)
+    → ((k : ℕ) → k < i → copy_index (get_or items k d) ≢ index) → bytes_for (copies_of items) index ≡ Some (copy_bytes (copied (get_or items i d)))
 unfolding bytes_for
 copy_first [] index i d within has none = absurd (omega (arith, within))
 copy_first (x ∷ xs) index zero d within has none = rw (eq-eqb (copy_index x) index has, bytes_for) refl
@@ -83,10 +83,10 @@ copy_none [] index d none = refl
 copy_none (x ∷ xs) index d none = rw (ne_eqb (copy_index x) index (none 0 (omega arith)), bytes_for) (copy_none xs index d (λ k below. none (suc k) (omega (arith, below))))
 
 pub copy_found : (items : List CopyItem) (index i : ℕ) (item : CopyItem) → FindsKey nat_cmp copy_index items index (Ok i) → item ≡ get_or items i item
-    → bytes_for (copies_of items) index ≡ Some (copy_bytes item.bytes)
+    → bytes_for (copies_of items) index ≡ Some (copy_bytes (copied item))
 copy_found items index i item found is =
     copy_first items index i item found.0 (ranked (copy_index (get_or items i item)) index Equal (sym (found.1 item))) (λ k below. below_is_other (copy_index (get_or items k item)) index (found.2 k item below))
-    ∙ ap (λ (x : CopyItem). Some (copy_bytes x.bytes)) (sym is)
+    ∙ ap (λ (x : CopyItem). Some (copy_bytes (copied x))) (sym is)
 
 pub copy_absent : (items : List CopyItem) (index i : ℕ) (d : CopyItem) → FindsKey nat_cmp copy_index items index (Err i) → bytes_for (copies_of items) index ≡ None
 copy_absent items index i d found = copy_none items index d other

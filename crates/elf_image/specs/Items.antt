@@ -1,5 +1,7 @@
 -- Items in ascending order, as they are given, and what they say of an image.
 use Rattle.std.specs.Prelude.{ℕ, zero, suc, ◌+◌, ◌-◌, ◌*◌, ◌/◌, ◌^◌, ◌==◌, ◌&&◌, nat_le, if◌then◌else◌, Bool, List, [], ◌∷◌, length, get_or, map, Option, unwrap_or}
+use Rattle.std.specs.Ordering.{nat_cmp}
+use Rattle.elf_layout.specs.Prelude.{KeysAscend}
 use Rattle.elf_model.specs.ImageItems.{ItemValues}
 use Rattle.elf_model.specs.Placing.{address_in}
 use Rattle.elf_image.specs.declared.image_items.CopyBytes.{CopyBytes}
@@ -55,8 +57,11 @@ copy_bytes bytes = bytes_from bytes 0 (copy_size bytes)
 abbrev pub copy_index : CopyItem → ℕ
 copy_index item = item.index
 
+abbrev pub copied : CopyItem → CopyBytes
+copied item = if item.digits == 0 then Raw item.bytes else Digits item.bytes
+
 abbrev pub copies_of : List CopyItem → List (ℕ × List ℕ)
-copies_of items = map (λ item. (copy_index item, copy_bytes item.bytes)) items
+copies_of items = map (λ item. (copy_index item, copy_bytes (copied item))) items
 
 -- THE ITEMS THAT ARE GIVEN: numbers, each of a kind and with a key, and the bytes of copied objects, by
 -- the index of their symbol
@@ -97,3 +102,7 @@ item_rank kind key = kind * 2 ^ 64 + key
 
 abbrev pub item_rank_of : NumberItem → ℕ
 item_rank_of item = item_rank item.kind item.key
+
+-- ITEMS ASCEND: numbers by kind and key, and copied objects by the index of their symbol
+abbrev pub Ascend : List NumberItem → List CopyItem → Type 0
+Ascend numbers copies = KeysAscend nat_cmp item_rank_of numbers × KeysAscend nat_cmp copy_index copies

@@ -1,10 +1,10 @@
 //! Items: what an image depends on besides its file.
-ghost use Rattle.std.specs.Prelude.{◌≡◌, ◌+◌, ◌*◌, ◌/◌, ◌^◌, ◌<◌, ◌≤◌, length, IfSome, MatchBool};
-ghost use Rattle.std.specs.Prelude.{true, option_map, slice_index_or, unwrap_or, ℕ, List};
+ghost use Rattle.std.specs.Prelude.{◌≡◌, ◌+◌, ◌*◌, ◌/◌, ◌^◌, ◌<◌, ◌≤◌, length, MatchBool, MatchOption};
+ghost use Rattle.std.specs.Prelude.{option_map, slice_index_or, unwrap_or, ℕ, List};
 ghost use Rattle.std.specs.Ordering.{nat_cmp};
 ghost use Rattle.elf_layout.specs.Lent.{FindsKey, Follows, KeysAscend};
 ghost use Rattle.elf_model.specs.ImageItems.{bytes_for};
-ghost use Rattle.elf_image.specs.Items.{byte_in, byte_of_digits, copies_of, copy_bytes, copy_index};
+ghost use Rattle.elf_image.specs.Items.{Ascend, byte_in, byte_of_digits, copied, copies_of, copy_bytes, copy_index};
 ghost use Rattle.elf_image.specs.Items.{copy_size, digit_value, given, item_kind_number, number_of};
 ghost use Rattle.elf_image.specs.Items.{item_rank, item_rank_of};
 ghost use Rattle.elf_image.specs.declared.image_items.ItemKind.TheVariants.{LoadAddress};
@@ -71,12 +71,28 @@ pub enum CopyBytes<'a> {
 }
 
 /// An item of a copied object.
+#[repr(C)]
 #[derive(Clone, Copy)]
 pub struct CopyItem<'a> {
     /// The index of the symbol.
     pub index: u32,
+    /// 0 if the bytes are as they are; if they are hexadecimal digits, two for each, another number.
+    pub digits: u32,
     /// The bytes of the object that it is bound to.
-    pub bytes: CopyBytes<'a>,
+    pub bytes: &'a [u8],
+}
+
+impl<'a> CopyItem<'a> {
+    /// Returns the bytes of the object.
+    pub fn copied(&self) -> CopyBytes<'a>
+        ensures { result ≡ copied self.now }
+    {
+        if self.digits == 0 {
+            CopyBytes::Raw(self.bytes)
+        } else {
+            CopyBytes::Digits(self.bytes)
+        }
+    }
 }
 
 impl CopyBytes<'_> {
@@ -131,15 +147,15 @@ fn digit_of(byte: u8) -> u8
 pub struct ImageItems<'a> {
     numbers: &'a [NumberItem],
     copies: &'a [CopyItem<'a>],
-    pub ghost ascending: { KeysAscend nat_cmp item_rank_of numbers.now
-        × KeysAscend nat_cmp copy_index copies.now },
+    pub ghost ascending: { Ascend numbers.now copies.now },
 }
 
 impl<'a> ImageItems<'a> {
     /// Returns the items of these slices, or `None` if one is not above the one before it.
     pub fn new(numbers: &'a [NumberItem], copies: &'a [CopyItem<'a>]) -> Option<ImageItems<'a>>
-        ensures { IfSome result (λ items.
-            given items.numbers.now items.copies.now ≡ given numbers.now copies.now) }
+        ensures { MatchOption result (Ascend numbers.now copies.now → ⊥) (λ items.
+            (given items.numbers.now items.copies.now ≡ given numbers.now copies.now)
+            × Ascend numbers.now copies.now) }
     {
         if !numbers_ascend(numbers) || !copies_ascend(copies) {
             return None;
@@ -171,7 +187,7 @@ impl<'a> ImageItems<'a> {
             ≡ bytes_for (given self.now.numbers.now self.now.copies.now).copies index }
     {
         match search_copy(self.copies, index) {
-            Ok(found) => Some(self.copies[found].bytes),
+            Ok(found) => Some(self.copies[found].copied()),
             Err(_) => None,
         }
     }
@@ -220,7 +236,8 @@ fn search_copy(items: &[CopyItem<'_>], index: u32) -> Result<usize, usize>
 
 /// Returns `true` if each number is above the one before it.
 fn numbers_ascend(items: &[NumberItem]) -> bool
-    ensures { result ≡ true → KeysAscend nat_cmp item_rank_of items.now }
+    ensures { MatchBool result (KeysAscend nat_cmp item_rank_of items.now)
+        (KeysAscend nat_cmp item_rank_of items.now → ⊥) }
 {
     let mut i = 0;
     while i < items.len() {
@@ -244,7 +261,8 @@ fn number_follows(items: &[NumberItem], i: usize) -> bool
 
 /// Returns `true` if each index is above the one before it.
 fn copies_ascend(items: &[CopyItem<'_>]) -> bool
-    ensures { result ≡ true → KeysAscend nat_cmp copy_index items.now }
+    ensures { MatchBool result (KeysAscend nat_cmp copy_index items.now)
+        (KeysAscend nat_cmp copy_index items.now → ⊥) }
 {
     let mut i = 0;
     while i < items.len() {

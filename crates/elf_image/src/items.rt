@@ -1,5 +1,5 @@
 //! Items of an image, parsed from arguments.
-use crate::image_items::{CopyBytes, CopyItem, ItemKind, NumberItem};
+use crate::image_items::{CopyItem, ItemKind, NumberItem};
 use elf_layout::{address_of, behind, number, parted};
 
 /// An item of an image.
@@ -38,7 +38,8 @@ fn copy_of<'a>(index: &str, text: &'a str) -> Option<CopyItem<'a>> {
     }
     Some(CopyItem {
         index: index_of(index)?,
-        bytes: CopyBytes::Digits(digits),
+        digits: 1,
+        bytes: digits,
     })
 }
 

@@ -1,4 +1,5 @@
-"""Lists ELF64 files, looks up names in them, applies relocations and reads their rows, by the library elfsee.
+"""Lists ELF64 files, looks up names in them, applies relocations, writes segments as a loader leaves them, and reads
+their rows, by the library elfsee.
 
     import elfsee
 
@@ -56,9 +57,9 @@ if TYPE_CHECKING:
     import mmap
 
 __all__ = [
-    "ALL", "DYNAMIC", "HEADER", "NOTES", "RELOCS", "SECTIONS", "SEGMENTS", "SYMBOLS", "VERSIONS",
-    "Absent", "Cause", "Dynamic", "File", "Full", "Header", "Layout", "Listing", "Lookup", "Member", "Missing",
-    "Note", "Refused", "Relocation", "Resolved", "Section", "Segment", "Symbol", "SymbolVersion", "Unapplied",
+    "ALL", "DYNAMIC", "HEADER", "JMPREL", "NOTES", "REL", "RELA", "RELOCS", "RELR", "SECTIONS", "SEGMENTS", "SYMBOLS", "VERSIONS",
+    "Absent", "Cause", "Dynamic", "File", "Full", "Header", "ImageItems", "Lacking", "Layout", "Listing", "Located",
+    "Lookup", "Member", "Missing", "Note", "Refused", "Relocation", "Resolved", "Section", "Segment", "Symbol", "SymbolVersion", "Unapplied",
     "VERSION", "Version", "VersionOfSymbol", "spelt",
 ]
 # The numbers of the standards, and the words of causes.
@@ -72,6 +73,8 @@ __all__ += [
 # The parts of a listing; VERSIONS is one only with the names defined by GNU.
 HEADER, SECTIONS, SEGMENTS, SYMBOLS, RELOCS, NOTES, DYNAMIC, VERSIONS = (1 << bit for bit in range(8))
 ALL = 127
+# The tables of relocations that dynamic entries locate, in the order in which a loader applies them.
+RELR, REL, RELA, JMPREL = range(4)
 # The range of each limit, and its default.
 MOST_HEADERS, MOST_NAME, MOST_NUMBER = 65279, 4096, (1 << 64) - 1
 DEFAULT_HEADERS, DEFAULT_NAME = 4096, 256
@@ -174,6 +177,11 @@ _Layout = _struct("elfsee_layout", (ctypes.POINTER(_LentSection), "sections"), (
                   *(pair for sort in ("definitions", "linkage", "table", "thread")
                     for pair in ((ctypes.POINTER(_LentName), sort), (ctypes.c_size_t, sort + "_len"))))
 _Missing = _struct("elfsee_missing", (_U32, "helpful section relocation name_len is_cut"), (_U8 * 256, "name"))
+_ImageItem = _struct("elfsee_image_item", (_U32, "kind"), (_U64, "key value"))
+_Copied = _struct("elfsee_copied", (_U32, "index digits"), (ctypes.c_char_p, "bytes"), (ctypes.c_size_t, "bytes_len"))
+_ImageItems = _struct("elfsee_image_items", (ctypes.POINTER(_ImageItem), "numbers"), (ctypes.c_size_t, "numbers_len"),
+                      (ctypes.POINTER(_Copied), "copies"), (ctypes.c_size_t, "copies_len"), (_U32, "partial none"))
+_Lacking = _struct("elfsee_lacking", (_U64, "at place"), (_U32, "type symbol cause none"))
 _Header = _struct("elfsee_header", (_U64, "entry phoff shoff"), (_U32, "version flags"),
                   (_U16, "type machine ehsize phentsize phnum shentsize shnum shstrndx"),
                   (_U8 * 16, "ident"))
@@ -182,6 +190,7 @@ _Section = _struct("elfsee_section", (_U64, "flags addr offset size addralign en
 _Segment = _struct("elfsee_segment", (_U64, "offset vaddr paddr filesz memsz align"),
                    (_U32, "type flags"))
 _Relocation = _struct("elfsee_relocation", (_U64, "offset info"), (_I64, "addend"))
+_ShortRelocation = _struct("elfsee_short_relocation", (_U64, "offset info"))
 _Dynamic = _struct("elfsee_dynamic", (_I64, "tag"), (_U64, "value"))
 _VersionWord = _struct("elfsee_version_word", (_U16, "number is_hidden"))
 _VersionRecord = _struct("elfsee_version_record", (_U64, "at named_at"), (_U32, "name hash"), (_U16, "number flags"),
@@ -194,11 +203,15 @@ _Note = _struct("elfsee_note", (_U64, "at name_at desc_at"), (_U32, "namesz desc
 _Members = _struct("elfsee_members", (_U64, "at"), (_Range, "names"), (_U32, "has_names none"))
 _Member = _struct("elfsee_member", (_U64, "at"), (_Range, "content name"), (_U32, "is_cut none"))
 STRUCTS = (_Limits, _End, _Listing, _Text, _Symbol, _Range, _Found, _Resolved, _Item, _Job, _LentSection, _LentName,
-           _Layout, _Missing, _Header, _Section, _Segment, _Relocation, _Dynamic, _VersionWord, _VersionRecord,
-           _VersionRecords, _Rows, _Notes, _Note, _Members, _Member)
+           _Layout, _Missing, _ImageItem, _Copied, _ImageItems, _Lacking, _Header, _Section, _Segment, _Relocation,
+           _ShortRelocation, _Dynamic, _VersionWord, _VersionRecord, _VersionRecords, _Rows, _Notes, _Note, _Members,
+           _Member)
 
 # The same as formats of `struct`, for the rows that are read in batches.
 _SYMBOL_FORM, _RELOCATION_FORM, _DYNAMIC_FORM, _WORD_FORM = "=QQIHBB", "=QQq", "=qQ", "=HH"
+_LACKING_FORM = "=QQIIII"
+# Of each size of the rows that dynamic entries locate, the call that reads them, and their form.
+_LOCATED_FORMS = {24: ("next_relocations", "=QQq"), 16: ("next_short_relocations", "=QQ"), 8: ("next_relative_words", "=Q")}
 
 # A c_char_p borrows the bytes of a `bytes` object, which never change and are never at NULL.
 _FILE = (ctypes.c_char_p, ctypes.c_size_t)
@@ -223,6 +236,8 @@ _CALLS: Mapping[str, Tuple[Any, ...]] = {
     "find": (_U32, *_FILE, _to(_Limits), *_ROOM, *_FILE, _to(_Found), _to(_End)),
     "look_up": (_U32, *_FILE, _to(_Limits), _U32, *_FILE, *_FILE, *_ROOM, _to(_Resolved), _to(_End)),
     "apply_lent": (_U32, *_FILE, _to(_Limits), _U16, _to(_Layout), *_ROOM, *_OUT, _to(_Missing), _to(_End)),
+    "image": (_U32, *_FILE, _to(_Limits), _U16, _to(_ImageItems), *_ROOM, *_OUT, *_OUT, _to(_End)),
+    "next_lacking": (_U32, *_FILE, _to(_Limits), _to(_ImageItems), *_ROOM, _to(_U64), *_OUT, _to(_End)),
     "header": (_U32, *_FILE, _to(_Header), _to(_End)),
     "section": (_U32, *_FILE, _U16, _to(_Section), _to(_End)),
     "section_bytes": (_U32, *_FILE, _U16, _to(_Range), _to(_End)),
@@ -230,6 +245,10 @@ _CALLS: Mapping[str, Tuple[Any, ...]] = {
     "section_names": (_U32, *_FILE, _to(_Limits), *_ROOM, _to(_Range), _to(_End)),
     "symbols": (_U32, *_TABLE),
     "hashed_symbols": (_U32, *_FILE, _to(_Limits), _U32, *_ROOM, _to(_Rows), _to(_End)),
+    "located_relocations": (_U32, *_FILE, _to(_Limits), _U32, *_ROOM, _to(_Rows), _to(_End)),
+    "next_relocations": (ctypes.c_size_t, *_FILE, _to(_Rows), *_OUT),
+    "next_short_relocations": (ctypes.c_size_t, *_FILE, _to(_Rows), *_OUT),
+    "next_relative_words": (ctypes.c_size_t, *_FILE, _to(_Rows), *_OUT),
     "relocations": (_U32, *_TABLE),
     "version_words": (_U32, *_TABLE),
     "version_records": (_U32, *_FILE, _to(_Limits), _U16, *_ROOM, _to(_VersionRecords), _to(_End)),
@@ -584,6 +603,53 @@ class Layout(NamedTuple):
     thread: Named = _NOTHING
 
 
+class ImageItems(NamedTuple):
+    """What the image of a segment depends on besides the file. Symbols are indexes of the dynamic symbols; those of
+    `modules`, `values` and `offsets` may be 0, for the object itself."""
+
+    # The load address: an address in memory less that in the file.
+    base: int = 0
+    # The address that a symbol is bound to, and the same for calls, if that is another.
+    symbols: Mapping[int, int] = _NOTHING
+    calls: Mapping[int, int] = _NOTHING
+    # Of the object that a symbol is bound in its module id, the symbol's value there, and the symbol's offset from the
+    # thread pointer.
+    modules: Mapping[int, int] = _NOTHING
+    values: Mapping[int, int] = _NOTHING
+    offsets: Mapping[int, int] = _NOTHING
+    # What the resolver at an address of the file answers.
+    resolvers: Mapping[int, int] = _NOTHING
+    # The bytes of the object that a copied symbol is bound to.
+    copies: Mapping[int, bytes] = types.MappingProxyType({})
+    # The first word of a static TLS descriptor.
+    descriptor: Optional[int] = None
+    # Whether an entry that lacks an item changes nothing, and a symbol that another object may define lacks its item
+    # also if it is weak, or defined here; otherwise the image is refused.
+    partial: bool = False
+
+
+class Lacking(NamedTuple):
+    """A relocation entry that lacks an item: `cause` is UNDEFINED for one of its symbol, UNPLACED for one of the
+    file."""
+
+    offset: int
+    address: int
+    type: int
+    symbol: int
+    cause: Cause
+
+
+class Located(NamedTuple):
+    """A relocation that dynamic entries locate, in the table RELR, REL, RELA or JMPREL. One of RELR has no type, no
+    symbol and no addend, and one of REL no addend."""
+
+    table: int
+    offset: int
+    type: Optional[int]
+    symbol: int
+    addend: Optional[int]
+
+
 # ---------------------------------------------------------------------------
 # Checks that are made here, since C would cut a number or take bytes as they are.
 
@@ -695,6 +761,39 @@ def _layout_of(layout: Layout) -> Any:
 
 # The fields of a layout, in the order of the bits of what would help.
 _SORTS = ("sections", "define", "entries", "table", "thread")
+
+
+def _image_items_of(items: ImageItems) -> Any:
+    """Returns the items in the form of C. Raises ValueError for a number outside its range."""
+    fixed = [(0, 0, items.base)] + ([] if items.descriptor is None else [(1, 0, items.descriptor)])
+    kinds = (items.symbols, items.calls, items.modules, items.values, items.offsets, items.resolvers)
+    numbers = fixed + [(kind, key, given[key]) for kind, given in enumerate(kinds, 2) for key in sorted(given)]
+    for _, *each in numbers:
+        for number in each:
+            _within("a number of an item", number, 0, MOST_NUMBER)
+    copies = [(_within("a symbol", index, 0, (1 << 32) - 1), 0, content, len(content))
+              for index, content in sorted(items.copies.items())]
+    return _ImageItems((_ImageItem * len(numbers))(*numbers), len(numbers), (_Copied * len(copies))(*copies), len(copies),
+                       items.partial, 0)
+
+
+def _relative_addresses(words: Iterable[int], at: int) -> Iterator[int]:
+    """Returns the addresses of the relative relocations that words at an offset of the file say (gABI, Relative
+    Relocation Table)."""
+    following: Optional[int] = None
+    for word in words:
+        if word % 2 == 0:
+            addresses, following = [word], word + 8
+        elif following is None:
+            raise Refused(Cause.RELR, at)
+        else:
+            addresses = [following + 8 * bit for bit in range(63) if word >> (bit + 1) & 1]
+            following += 504
+        for address in addresses:
+            if address > MOST_NUMBER - 7:
+                raise Refused(Cause.RELR, at)
+            yield address
+        at += 8
 
 
 def _missing_of(told: Any) -> Optional[Missing]:
@@ -922,6 +1021,44 @@ class File:
             raise Full("the section has more than %d bytes" % length)
         return ctypes.string_at(out, end.written)
 
+    def image(self, segment: int, items: ImageItems = ImageItems(), *, most: int = 1 << 30,
+              window: int = 1 << 20) -> bytes:
+        """Returns the bytes of a LOAD segment of an executable or a shared object for x86-64 as a loader leaves them.
+        Raises Refused if an entry lacks an item, unless the items are partial; Full if there are more than `most`;
+        ValueError if a number of the items is outside its range. It takes `window` bytes of memory besides; with less
+        than the segment has, the entries are read more than once."""
+        given, segment = _image_items_of(items), _within("segment", segment, 0, 65535)
+        length = min(self._size_in_memory(segment), _within("most", most, 0, 1 << 62))
+        space = max(16, min(length, _within("window", window, 16, 1 << 62)))
+        out, part = ctypes.create_string_buffer(max(1, length)), ctypes.create_string_buffer(space)
+        status, end = self._call("image", self._limits, segment, given, *self._lent(), part, space, out, length)
+        if status == _FULL:
+            raise Full("the segment has more than %d bytes" % length)
+        return ctypes.string_at(out, end.written)
+
+    def _size_in_memory(self, segment: int) -> int:
+        """Returns how many bytes a segment has in memory by its program header, which is not checked; 0 if it is
+        outside the file, which image reports."""
+        header = _Header()
+        self._call("header", header)
+        at = header.phoff + 56 * segment + 40
+        return int.from_bytes(self.data[at:at + 8], "little") if at < len(self.data) else 0
+
+    def lacking(self, items: ImageItems = ImageItems()) -> Iterator[Lacking]:
+        """Returns the relocation entries that lack an item, in the order in which a loader applies them. All entries
+        are read for each BATCH of them."""
+        given, index = _image_items_of(items), _U64(0)
+        size = struct.calcsize(_LACKING_FORM)
+        out = ctypes.create_string_buffer(size * BATCH)
+        while True:
+            before = int(index.value)
+            status, _ = self._call("next_lacking", self._limits, given, *self._lent(), index, out, BATCH)
+            if status == _ABSENT:
+                return
+            rows = ctypes.string_at(out, size * (int(index.value) - before))
+            for at, place, kind, symbol, cause, _ in struct.iter_unpack(_LACKING_FORM, rows):
+                yield Lacking(at, place, kind, symbol, Cause(cause))
+
     def _size_in_file(self, section: int) -> int:
         """Returns how many bytes of the file a section has; none if it is refused, which apply reports."""
         row = _Section()
@@ -1113,6 +1250,36 @@ class File:
                 yield make(Relocation, (offset, info & 0xffffffff, symbol, addend, name, table, index))
                 index += 1
             asked.leave(left)
+
+    def located_relocations(self, table: Optional[int] = None) -> Iterator[Located]:
+        """Returns the relocations of a table, RELR, REL, RELA or JMPREL, that the dynamic entries locate, found by the
+        program headers alone; or of all four, in the order in which a loader applies them. Their symbols are those of
+        `hashed_symbols(by_segments=True)`."""
+        for each in range(4) if table is None else (_within("table", table, 0, 3),):
+            rows = _Rows()
+            status, _ = self._call("located_relocations", self._limits, each, *self._lent(), rows)
+            if status == _OK:
+                yield from self._located_in(each, rows)
+
+    def _located_in(self, table: int, rows: Any) -> Iterator[Located]:
+        call, form = _LOCATED_FORMS[rows.entry]
+        at, batches = rows.at, self._rows_of(call, rows, form)
+        if rows.entry == 8:
+            for address in _relative_addresses((word for (word,) in batches), at):
+                yield Located(table, address, None, 0, None)
+            return
+        for offset, info, *addend in batches:
+            yield Located(table, offset, info & 0xffffffff, info >> 32, addend[0] if addend else None)
+
+    def _rows_of(self, call: str, rows: Any, form: str) -> Iterator[Numbers]:
+        """Returns the rows that are left."""
+        data, size, step = self.data, struct.calcsize(form), getattr(_library, "elfsee_" + call)
+        out = ctypes.create_string_buffer(size * BATCH)
+        while True:
+            count = step(data, len(data), rows, out, BATCH)
+            if not count:
+                return
+            yield from struct.iter_unpack(form, ctypes.string_at(out, size * count))
 
     def _symbol_names(self, table: int, asked: _Asked) -> Callable[[int, int], bytes]:
         """Returns a function that names the symbol of an index, for an entry at an offset, in a table of entries."""

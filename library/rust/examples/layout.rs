@@ -5,9 +5,9 @@ use elfsee::raw;
 use std::mem::{size_of, size_of_val, MaybeUninit};
 use std::ptr::addr_of;
 
-/// The name in C of a field: `kind` is its `type`, except an item's and a version's, which is `kind` in both.
+/// The name in C of a field: `kind` is its `type`, except items' and a version's, which is `kind` in both.
 fn name_in_c<'a>(of: &str, field: &'a str) -> &'a str {
-    if field == "kind" && !["elfsee_item", "elfsee_version_record", "elfsee_version_records"].contains(&of) {
+    if field == "kind" && !["elfsee_item", "elfsee_image_item", "elfsee_version_record", "elfsee_version_records"].contains(&of) {
         "type"
     } else {
         field
@@ -43,6 +43,10 @@ fn main() {
     tell!("elfsee_layout", raw::Layout, sections sections_len definitions definitions_len linkage linkage_len
         table table_len thread thread_len);
     tell!("elfsee_missing", raw::Missing, helpful section relocation name_len is_cut name);
+    tell!("elfsee_image_item", raw::ImageItem, kind key value);
+    tell!("elfsee_copied", raw::Copied, index digits bytes bytes_len);
+    tell!("elfsee_image_items", raw::ImageItems, numbers numbers_len copies copies_len partial none);
+    tell!("elfsee_lacking", raw::Lacking, at place kind symbol cause none);
     tell!("elfsee_version_word", raw::VersionWord, number is_hidden);
     tell!("elfsee_version_record", raw::VersionRecord, at named_at name hash number flags kind);
     tell!("elfsee_version_records", raw::VersionRecords, at size place from owner left strings_at strings_len kind none);
@@ -51,6 +55,7 @@ fn main() {
     tell!("elfsee_section", raw::Section, flags addr offset size addralign entsize name kind link info);
     tell!("elfsee_segment", raw::Segment, offset vaddr paddr filesz memsz align kind flags);
     tell!("elfsee_relocation", raw::Relocation, offset info addend);
+    tell!("elfsee_short_relocation", raw::ShortRelocation, offset info);
     tell!("elfsee_dynamic", raw::Dynamic, tag value);
     tell!("elfsee_range", raw::Range, at len);
     tell!("elfsee_rows", raw::Rows, at count index entry strings_at strings_len);

@@ -37,7 +37,9 @@
 pub mod abi;
 mod error;
 mod headers;
+mod images;
 mod layouts;
+mod located;
 mod members;
 mod names;
 mod notes;
@@ -48,11 +50,13 @@ mod versions;
 
 pub use error::{Cause, Error, Refused};
 pub use headers::{NamedSections, Sections, Segments};
+pub use images::{CopiedObject, ImageItem, ImageItems};
 pub use layouts::{Layout, Missing, NameAddress, SectionAddress, Unapplied};
+pub use located::{LocatedRows, LocatedTable, RelativeAddresses, ShortRelocations};
 pub use members::{Member, Members};
 pub use names::{spelt, HasName, Named, Names, Spelt};
 pub use notes::{Note, Notes};
-pub use raw::{Dynamic, Header, Range, Relocation, Section, Segment, Symbol, VersionWord};
+pub use raw::{Dynamic, Header, Lacking, Range, Relocation, Section, Segment, ShortRelocation, Symbol, VersionWord};
 pub use rows::{DynamicEntries, Relocations, Rows, Symbols, VersionWords, Within};
 pub use texts::Text;
 pub use versions::{VersionKind, VersionRecord, VersionRecords};
@@ -116,6 +120,18 @@ impl raw::Symbol {
     /// Returns its visibility, such as STV_HIDDEN.
     pub fn visibility(&self) -> u8 {
         self.other & 3
+    }
+}
+
+impl raw::ShortRelocation {
+    /// Returns the index of the symbol, the upper half of `info`.
+    pub fn symbol(&self) -> u32 {
+        (self.info >> 32) as u32
+    }
+
+    /// Returns the relocation type, the lower half of `info`.
+    pub fn kind(&self) -> u32 {
+        self.info as u32
     }
 }
 
@@ -658,6 +674,113 @@ impl<'a> File<'a> {
         }
     }
 
+    /// Writes the bytes of a LOAD segment of an executable or a shared object for x86-64, as a loader leaves them: as
+    /// many as its `memsz`. `window` has 16 bytes or more: with less than the segment has, the entries are read more
+    /// than once.
+    ///
+    /// ```
+    /// use elfsee::{abi, File, ImageItem, ImageItems};
+    ///
+    /// # fn main() -> Result<(), Box<dyn std::error::Error>> {
+    /// let bytes = std::fs::read("/proc/self/exe")?;
+    /// let file = File::new(&bytes);
+    /// let numbers = [ImageItem::base(0x7f0000000000)];
+    /// let items = ImageItems { numbers: &numbers, partial: true, ..ImageItems::default() };
+    /// let (mut room, mut window) = (vec![0; file.room()], vec![0; 1 << 20]);
+    /// for (index, segment) in file.segments()?.filter(|(_, segment)| segment.kind == abi::PT_LOAD) {
+    ///     let mut out = vec![0; segment.memsz as usize];
+    ///     let image = file.image(index, &items, &mut room, &mut window, &mut out)?;
+    ///     assert_eq!(image.len(), segment.memsz as usize);
+    /// }
+    /// # Ok(())
+    /// # }
+    /// ```
+    pub fn image<'o>(
+        &self,
+        segment: u16,
+        items: &ImageItems<'_>,
+        room: &mut [u8],
+        window: &mut [u8],
+        out: &'o mut [u8],
+    ) -> Result<&'o [u8], Error> {
+        let (lent, mut end) = (items.raw(), raw::End::default());
+        // SAFETY: as in `show`; the lists are slices' own pointers and lengths, and so are the copied bytes.
+        let status = unsafe {
+            raw::elfsee_image(
+                self.bytes.as_ptr(),
+                self.bytes.len(),
+                &self.limits,
+                segment,
+                &lent,
+                room.as_mut_ptr(),
+                room.len(),
+                window.as_mut_ptr(),
+                window.len(),
+                out.as_mut_ptr(),
+                out.len(),
+                &mut end,
+            )
+        };
+        match status {
+            raw::OK => Ok(written(out, &end)),
+            _ => Err(error_of(status, &end)),
+        }
+    }
+
+    /// Reads the next relocation entries that lack an item, in the order in which a loader applies them, as many as fit
+    /// `out`, and adds to `index` how many; none after the last. Begin with an index of 0. Each call goes through all
+    /// entries from the first.
+    ///
+    /// ```
+    /// use elfsee::{File, ImageItems, Lacking};
+    ///
+    /// # fn main() -> Result<(), Box<dyn std::error::Error>> {
+    /// let bytes = std::fs::read("/proc/self/exe")?;
+    /// let file = File::new(&bytes);
+    /// let (mut room, mut out, mut index) = (vec![0; file.room()], [Lacking::default(); 256], 0);
+    /// let symbols = file.hashed_symbols(true, &mut room)?;
+    /// loop {
+    ///     let entries = file.lacking(&ImageItems::default(), &mut room, &mut index, &mut out)?;
+    ///     if entries.is_empty() {
+    ///         break;
+    ///     }
+    ///     for entry in entries {
+    ///         let symbol = symbols.row(entry.symbol.into()).ok_or("no such symbol")?;
+    ///         println!("{:x} {}", entry.place, elfsee::spelt(symbols.name(symbol.name.into())?));
+    ///     }
+    /// }
+    /// # Ok(())
+    /// # }
+    /// ```
+    pub fn lacking<'o>(
+        &self,
+        items: &ImageItems<'_>,
+        room: &mut [u8],
+        index: &mut u64,
+        out: &'o mut [Lacking],
+    ) -> Result<&'o [Lacking], Error> {
+        let (lent, before, mut end) = (items.raw(), *index, raw::End::default());
+        // SAFETY: as in `image`.
+        let status = unsafe {
+            raw::elfsee_next_lacking(
+                self.bytes.as_ptr(),
+                self.bytes.len(),
+                &self.limits,
+                &lent,
+                room.as_mut_ptr(),
+                room.len(),
+                index,
+                out.as_mut_ptr(),
+                out.len(),
+                &mut end,
+            )
+        };
+        match status {
+            raw::OK | raw::ABSENT => Ok(&out[..out.len().min((*index - before) as usize)]),
+            _ => Err(error_of(status, &end)),
+        }
+    }
+
     /// Returns the file header.
     ///
     /// ```
@@ -836,6 +959,45 @@ impl<'a> File<'a> {
             raw::OK => Ok(Rows::new(self.bytes, rows)),
             _ => Err(error_of(status, &end)),
         }
+    }
+
+    /// Returns the relocations of a table that the file's dynamic entries locate, found by the program headers alone;
+    /// `None` if they locate none.
+    ///
+    /// ```
+    /// # fn main() -> Result<(), Box<dyn std::error::Error>> {
+    /// use elfsee::{LocatedRows, LocatedTable};
+    ///
+    /// let bytes = std::fs::read("/proc/self/exe")?;
+    /// let file = elfsee::File::new(&bytes);
+    /// let mut room = vec![0; file.room()];
+    /// let symbols = file.hashed_symbols(true, &mut room)?;
+    /// if let Some(LocatedRows::WithAddends(entries)) = file.located_relocations(LocatedTable::Rela, &mut room)? {
+    ///     for entry in entries.filter(|entry| entry.symbol() != 0) {
+    ///         let symbol = symbols.row(entry.symbol().into()).ok_or("no such symbol")?;
+    ///         println!("{:x} {}", entry.offset, elfsee::spelt(symbols.name(symbol.name.into())?));
+    ///     }
+    /// }
+    /// # Ok(())
+    /// # }
+    /// ```
+    pub fn located_relocations(&self, table: LocatedTable, room: &mut [u8]) -> Result<Option<LocatedRows<'a>>, Error> {
+        let (mut rows, mut end) = (raw::Rows::default(), raw::End::default());
+        // SAFETY: as in `show`.
+        let status = unsafe {
+            raw::elfsee_located_relocations(
+                self.bytes.as_ptr(),
+                self.bytes.len(),
+                &self.limits,
+                table as u32,
+                room.as_mut_ptr(),
+                room.len(),
+                &mut rows,
+                &mut end,
+            )
+        };
+        let rows = table_of(status, rows, &end)?;
+        Ok(rows.map(|rows| LocatedRows::new(self.bytes, rows)))
     }
 
     /// Returns the relocation entries of a section; `None` if it holds none.

@@ -23,6 +23,20 @@ pub const ENTRY: u32 = 2;
 pub const TABLE: u32 = 3;
 pub const THREAD: u32 = 4;
 
+pub const IMAGE_BASE: u32 = 0;
+pub const IMAGE_DESCRIPTOR: u32 = 1;
+pub const IMAGE_SYMBOL: u32 = 2;
+pub const IMAGE_CALL: u32 = 3;
+pub const IMAGE_MODULE: u32 = 4;
+pub const IMAGE_VALUE: u32 = 5;
+pub const IMAGE_OFFSET: u32 = 6;
+pub const IMAGE_RESOLVER: u32 = 7;
+
+pub const AT_RELR: u32 = 0;
+pub const AT_REL: u32 = 1;
+pub const AT_RELA: u32 = 2;
+pub const AT_JMPREL: u32 = 3;
+
 #[repr(C)]
 #[derive(Clone, Copy, Debug, Default, PartialEq, Eq)]
 pub struct Limits {
@@ -165,6 +179,47 @@ impl Default for Missing {
     }
 }
 
+/// A number that an image depends on besides the file. They are ordered by their kinds, and then by their keys.
+#[repr(C)]
+#[derive(Clone, Copy, Debug, Default, PartialEq, Eq, PartialOrd, Ord)]
+pub struct ImageItem {
+    pub kind: u32,
+    pub key: u64,
+    pub value: u64,
+}
+
+#[repr(C)]
+#[derive(Clone, Copy, Debug)]
+pub struct Copied {
+    pub index: u32,
+    pub digits: u32,
+    pub bytes: *const u8,
+    pub bytes_len: usize,
+}
+
+#[repr(C)]
+#[derive(Clone, Copy, Debug)]
+pub struct ImageItems {
+    pub numbers: *const ImageItem,
+    pub numbers_len: usize,
+    pub copies: *const Copied,
+    pub copies_len: usize,
+    pub partial: u32,
+    pub none: u32,
+}
+
+/// A relocation entry that lacks an item.
+#[repr(C)]
+#[derive(Clone, Copy, Debug, Default, PartialEq, Eq)]
+pub struct Lacking {
+    pub at: u64,
+    pub place: u64,
+    pub kind: u32,
+    pub symbol: u32,
+    pub cause: u32,
+    pub none: u32,
+}
+
 /// The version of a symbol: its number, and 1 if a name alone does not find the symbol.
 #[repr(C)]
 #[derive(Clone, Copy, Debug, Default, PartialEq, Eq)]
@@ -263,6 +318,14 @@ pub struct Relocation {
     pub offset: u64,
     pub info: u64,
     pub addend: i64,
+}
+
+/// A relocation entry without an addend, field by field (gABI, Relocation).
+#[repr(C)]
+#[derive(Clone, Copy, Debug, Default, PartialEq, Eq)]
+pub struct ShortRelocation {
+    pub offset: u64,
+    pub info: u64,
 }
 
 /// A dynamic entry, field by field (gABI, Dynamic Section).
@@ -435,6 +498,56 @@ extern "C" {
         missing: *mut Missing,
         end: *mut End,
     ) -> u32;
+    pub fn elfsee_image(
+        file: *const u8,
+        file_len: usize,
+        limits: *const Limits,
+        segment: u16,
+        items: *const ImageItems,
+        room: *mut u8,
+        room_len: usize,
+        window: *mut u8,
+        window_len: usize,
+        out: *mut u8,
+        out_len: usize,
+        end: *mut End,
+    ) -> u32;
+    pub fn elfsee_next_lacking(
+        file: *const u8,
+        file_len: usize,
+        limits: *const Limits,
+        items: *const ImageItems,
+        room: *mut u8,
+        room_len: usize,
+        index: *mut u64,
+        out: *mut Lacking,
+        out_len: usize,
+        end: *mut End,
+    ) -> u32;
+    pub fn elfsee_located_relocations(
+        file: *const u8,
+        file_len: usize,
+        limits: *const Limits,
+        table: u32,
+        room: *mut u8,
+        room_len: usize,
+        rows: *mut Rows,
+        end: *mut End,
+    ) -> u32;
+    pub fn elfsee_next_short_relocations(
+        file: *const u8,
+        file_len: usize,
+        rows: *mut Rows,
+        out: *mut ShortRelocation,
+        out_len: usize,
+    ) -> usize;
+    pub fn elfsee_next_relative_words(
+        file: *const u8,
+        file_len: usize,
+        rows: *mut Rows,
+        out: *mut u64,
+        out_len: usize,
+    ) -> usize;
     pub fn elfsee_version_words(
         file: *const u8,
         file_len: usize,

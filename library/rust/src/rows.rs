@@ -14,8 +14,11 @@ pub(crate) mod sealed {
     pub trait Fetch: Copy + Default {
         /// Fetches up to `out.len()` next rows, and returns how many.
         fn fetch(file: &[u8], rows: &mut super::raw::Rows, out: &mut [Self]) -> usize;
+    }
 
-        /// The same within a budget. The second value says whether the budget ended it.
+    /// Fetches rows of a kind that may be counted.
+    pub trait FetchWithin: Fetch {
+        /// Does the same within a budget. The second value says whether the budget ended it.
         fn fetch_within(
             file: &[u8],
             limits: &super::raw::Limits,
@@ -26,17 +29,22 @@ pub(crate) mod sealed {
     }
 }
 
-use sealed::Fetch;
+use sealed::{Fetch, FetchWithin};
 
 macro_rules! fetched {
-    ($row:ty, $call:path, $within:path) => {
+    ($row:ty, $call:path) => {
         impl Fetch for $row {
             fn fetch(file: &[u8], rows: &mut raw::Rows, out: &mut [Self]) -> usize {
                 // SAFETY: a slice's own pointer and length, a struct that is initialised, and `out`
                 // and `rows`, which nothing else refers to.
                 unsafe { $call(file.as_ptr(), file.len(), rows, out.as_mut_ptr(), out.len()) }
             }
+        }
+    };
+    ($row:ty, $call:path, $within:path) => {
+        fetched!($row, $call);
 
+        impl FetchWithin for $row {
             fn fetch_within(
                 file: &[u8],
                 limits: &raw::Limits,
@@ -54,6 +62,8 @@ macro_rules! fetched {
     };
 }
 
+fetched!(raw::ShortRelocation, raw::elfsee_next_short_relocations);
+fetched!(u64, raw::elfsee_next_relative_words);
 fetched!(raw::Symbol, raw::elfsee_next_symbols, raw::elfsee_next_symbols_within);
 fetched!(raw::Relocation, raw::elfsee_next_relocations, raw::elfsee_next_relocations_within);
 fetched!(raw::Dynamic, raw::elfsee_next_dynamic, raw::elfsee_next_dynamic_within);
@@ -107,6 +117,30 @@ impl<'a, R: Fetch> Rows<'a, R> {
         Names::new(self.file, strings)
     }
 
+    /// Returns the row with an index, wherever the iterator is; `None` if the table has no such row.
+    ///
+    /// ```
+    /// # fn main() -> Result<(), Box<dyn std::error::Error>> {
+    /// let bytes = std::fs::read("/proc/self/exe")?;
+    /// let file = elfsee::File::new(&bytes);
+    /// let mut room = vec![0; file.room()];
+    /// for (index, section) in file.sections(&mut room)? {
+    ///     if section.kind == elfsee::abi::SHT_DYNSYM {
+    ///         let symbols = file.symbols(index, &mut room)?.unwrap();
+    ///         assert_eq!(symbols.row(0), Some(elfsee::Symbol::default()));
+    ///         assert_eq!(symbols.row(symbols.total()), None);
+    ///     }
+    /// }
+    /// # Ok(())
+    /// # }
+    /// ```
+    pub fn row(&self, index: u64) -> Option<R> {
+        let (mut rows, mut row) = (raw::Rows { index, ..self.rows }, [R::default()]);
+        (R::fetch(self.file, &mut rows, &mut row) == 1).then(|| row[0])
+    }
+}
+
+impl<'a, R: FetchWithin> Rows<'a, R> {
     /// Returns the rows that are left, within a budget: what each reads from the file counts in `asked`, over all
     /// tables whose rows are passed it, and those that [`File::dynamic_within`](crate::File::dynamic_within) opens.
     /// The first row that would exceed `budget` is refused, with the cause `budget`, and is the last. Names are not
@@ -135,28 +169,6 @@ impl<'a, R: Fetch> Rows<'a, R> {
         let limits = raw::Limits { has_budget: 1, budget, ..raw::Limits::default() };
         let batch = [R::default(); BATCH];
         Within { file: self.file, rows, limits, asked, batch, next: 0, fetched: 0, refused: None, is_over: false }
-    }
-
-    /// Returns the row with an index, wherever the iterator is; `None` if the table has no such row.
-    ///
-    /// ```
-    /// # fn main() -> Result<(), Box<dyn std::error::Error>> {
-    /// let bytes = std::fs::read("/proc/self/exe")?;
-    /// let file = elfsee::File::new(&bytes);
-    /// let mut room = vec![0; file.room()];
-    /// for (index, section) in file.sections(&mut room)? {
-    ///     if section.kind == elfsee::abi::SHT_DYNSYM {
-    ///         let symbols = file.symbols(index, &mut room)?.unwrap();
-    ///         assert_eq!(symbols.row(0), Some(elfsee::Symbol::default()));
-    ///         assert_eq!(symbols.row(symbols.total()), None);
-    ///     }
-    /// }
-    /// # Ok(())
-    /// # }
-    /// ```
-    pub fn row(&self, index: u64) -> Option<R> {
-        let (mut rows, mut row) = (raw::Rows { index, ..self.rows }, [R::default()]);
-        (R::fetch(self.file, &mut rows, &mut row) == 1).then(|| row[0])
     }
 }
 
@@ -222,7 +234,7 @@ pub struct Within<'a, 'c, R> {
     is_over: bool,
 }
 
-impl<R: Fetch> Iterator for Within<'_, '_, R> {
+impl<R: FetchWithin> Iterator for Within<'_, '_, R> {
     type Item = Result<R, Refused>;
 
     fn next(&mut self) -> Option<Self::Item> {

@@ -37,6 +37,7 @@ def compiled_in_rust(counts, library, folder):
                     "static=elfsee", crate, "--out-dir", folder], check=True)
     linked = ["--extern", "elfsee=" + os.path.join(folder, "libelfsee.rlib")]
     sources = [os.path.join(LIBRARY, "rust", "examples", "calls.rs"),
+               os.path.join(LIBRARY, "rust", "examples", "images.rs"),
                os.path.join(LIBRARY, "rust", "examples", "layout.rs"),
                os.path.join(TOP, "examples", "relocate.rs")]
     for source in sources:

@@ -83,6 +83,7 @@ static int is_zero(const void *bytes, size_t len) {
 #include "bounds_limits.h"
 #include "bounds_items.h"
 #include "bounds_numbers.h"
+#include "bounds_images.h"
 
 static void many(const char *name, int (*call)(void), unsigned tries) {
     int all = 1;
@@ -222,6 +223,9 @@ int main(int argc, char **argv) {
     many("the bytes of sections of changed files", any_bytes, tries);
     many("sections of changed files, with any items", any_apply, tries);
     many("sections of changed files, in any layout that is lent", any_place, tries);
+    many("images of segments of changed files, with any items", any_image, tries);
+    many("what images of changed files lack, with any items", any_lacking, tries);
+    many("tables that dynamic entries of changed files locate", any_located, tries);
     many("tables of changed files, with any limits", any_open, tries);
     many("records of versions of changed files, with any limits", any_open_records, tries);
     check(is_whole(&out) && is_whole(&room) && is_whole(&object) && is_whole(&library) && is_whole(&archive),

@@ -311,7 +311,7 @@ static struct elfsee_limits any_limits(void) {
 static int is_end(const struct elfsee_end *end, uint32_t status, const struct elfsee_limits *limits,
                   size_t out_len) {
     return status <= ELFSEE_BAD_CALL && end->written <= out_len &&
-           (end->cause != 0) == (status == ELFSEE_REFUSED) && end->cause <= ELFSEE_UNMAPPED &&
+           (end->cause != 0) == (status == ELFSEE_REFUSED) && end->cause <= ELFSEE_TABLE_WRITTEN &&
            (status == ELFSEE_REFUSED || end->at == 0) && end->none == 0 &&
            (!limits->has_budget || end->asked <= limits->budget);
 }

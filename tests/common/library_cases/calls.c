@@ -10,13 +10,16 @@
  *     apply HEADERS BUDGET SECTION ITEMS PATH
  *     place HEADERS BUDGET SECTION ITEMS PATH          the same in a borrowed layout; if it is refused
  *                                            the bytes say what that lacks
+ *     image HEADERS BUDGET SEGMENT PARTIAL WINDOW NUMBERS COPIES PATH   the bytes of a segment
+ *     lacking HEADERS BUDGET EACH NUMBERS COPIES PATH  the entries that lack an item, EACH in one call
+ *     located HEADERS BUDGET PATH            the relocations that dynamic entries locate
  *     rows PATH
  *     versions PATH                          the lines of symbol versions
  *     members PATH                           the lines of the members of an archive
  *     words                                  the words of the causes
  *
  * BUDGET is a number, or - for none; ITEMS are KIND:INDEX:NAME:ADDRESS joined by commas, with the name in
- * hexadecimal digits, or -. The answer is a line STATUS CAUSE AT WRITTEN ASKED COST LENGTH, and LENGTH bytes; if
+ * hexadecimal digits, or -; NUMBERS and COPIES are described in calls_images.h. The answer is a line STATUS CAUSE AT WRITTEN ASKED COST LENGTH, and LENGTH bytes; if
  * a call does something that it must not do the line is WRONG and what it did. All caller's buffers are next to
  * pages that cannot be touched, and the file cannot be written. */
 #define _GNU_SOURCE
@@ -462,6 +465,7 @@ static void place(const struct lent *file, char **words) {
 }
 
 #include "calls_rows.h"
+#include "calls_images.h"
 
 /* The words of the causes, a line for each number. */
 static void words_of_causes(void) {
@@ -489,7 +493,7 @@ static void split(char *line, char **words, size_t count) {
 }
 
 static void answer_line(char *line) {
-    char *words[8];
+    char *words[9];
     size_t count = !strncmp(line, "show ", 5)      ? 5
                    : !strncmp(line, "list ", 5)    ? 6
                    : !strncmp(line, "names ", 6)   ? 7
@@ -498,6 +502,9 @@ static void answer_line(char *line) {
                    : !strncmp(line, "resolve ", 8) ? 6
                    : !strncmp(line, "apply ", 6)   ? 5
                    : !strncmp(line, "place ", 6)   ? 5
+                   : !strncmp(line, "image ", 6)   ? 8
+                   : !strncmp(line, "lacking ", 8) ? 6
+                   : !strncmp(line, "located ", 8) ? 3
                                                    : 1;
     if (!strcmp(line, "words")) {
         words_of_causes();
@@ -513,6 +520,9 @@ static void answer_line(char *line) {
     if (!strcmp(words[0], "resolve")) resolve(&file, words + 1);
     if (!strcmp(words[0], "apply")) apply(&file, words + 1);
     if (!strcmp(words[0], "place")) place(&file, words + 1);
+    if (!strcmp(words[0], "image")) image(&file, words + 1);
+    if (!strcmp(words[0], "lacking")) lacking(&file, words + 1);
+    if (!strcmp(words[0], "located")) located(&file, words + 1);
     if (!strcmp(words[0], "rows")) rows(&file);
     if (!strcmp(words[0], "versions")) versions(&file);
     if (!strcmp(words[0], "members")) members(&file);

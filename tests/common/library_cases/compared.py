@@ -14,6 +14,19 @@ from library_cases.numbers import columns_of_page, names_of_numbers, names_of_re
 from testing import TOP
 
 
+def numbers_and_copies(words):
+    """The items of the command `image`, as calls.c takes them."""
+    kinds, numbers, copies = ("base", "desc", "sym", "call", "mod", "dtp", "tp", "ires"), [], []
+    for word in words:
+        key, value = word.rsplit("=", 1)
+        kind, _, key = key.partition(":")
+        if kind == "copy":
+            copies.append(f"{key}:{value}")
+        else:
+            numbers.append(f"{kinds.index(kind)}:{int(key or '0', 0):x}:{int(value, 0):x}")
+    return ",".join(numbers) or "-", ",".join(copies) or "-"
+
+
 class Built:
     """The library's files, and a directory for what is made with them."""
 
@@ -139,6 +152,51 @@ class Compared:
             lines.append(f"{value} {size} {info} {other} {place} {at} {told}\n")
         wrong = same((OK, "".join(lines)), (numbers[0], text.decode()))
         return wrong and f"symbols of the hash table: {wrong}"
+
+    def image(self, path, segment, words, window, wanted=None):
+        """Compares the image of a segment with the program's, or with its first eight words or the line of the refusal."""
+        partial, *given = (1, *words[1:]) if words[:1] == ["--leave"] else (0, *words)
+        numbers, text = self.calls.ask("image", MOST_HEADERS, "-", segment, partial, window, *numbers_and_copies(given), path)
+        if numbers is None:
+            return f"image: {text}"
+        said = self.line_of(numbers) if numbers[0] == REFUSED else text
+        if wanted is None:
+            leave, items = words[:1] * partial, given
+            done = run([self.program, "image", "--headers", str(MOST_HEADERS), *leave, path, str(segment), *items])
+            return same((done.returncode, done.stdout), (numbers[0], said)) and f"image of {segment}: {len(said)} bytes"
+        if numbers[0] == OK:
+            said = " ".join(f"{word:x}" for word in struct.unpack_from("<8Q", text)).encode()
+        return same(wanted, said.decode().rstrip("\n"))
+
+    def lacking(self, path, words, each):
+        """Compares the entries that lack an item with the lines of the program, but for the names of types."""
+        numbers, text = self.calls.ask("lacking", MOST_HEADERS, "-", each, *numbers_and_copies(words), path)
+        if numbers is None:
+            return f"lacking: {text}"
+        done = run([self.program, "image", "--headers", str(MOST_HEADERS), "--missing", path, *words])
+        if numbers[0] == REFUSED:
+            return same((done.returncode, done.stdout), (1, self.line_of(numbers)))
+        lines = [line.split(" ") for line in text.decode().split("\n")[:-1]]
+        said = [(at, place, symbol, self.causes[int(cause)]) for at, place, _, symbol, cause in lines]
+        wanted = [(line[2:18], line[19:35], *line[46:].split()) for line in done.stdout.decode().split("\n")[:-1]]
+        return same((ABSENT, wanted), (numbers[0], said))
+
+    def located(self, path):
+        """Compares the places, the symbols and the addends of the relocations that dynamic entries locate with a listing by
+        the program headers; one of the four tables may be words, whose first is the place of its first row."""
+        numbers, text = self.calls.ask("located", MOST_HEADERS, "-", path)
+        if numbers is None:
+            return f"located: {text}"
+        listed = run([self.program, "show", "--headers", str(MOST_HEADERS), "--gnu", "--only", "relocs", path]).stdout.decode()
+        said = [line.split(" ") for line in text.decode().split("\n")[:-1]]
+        wanted = [(line[8:24], int(line[36:44], 16), line[45:62]) for line in listed.split("\n") if line.startswith("R ")]
+        rows = [(place, int(symbol), "-" + " " * 16 if addend == "-" else f"{'-' if int(addend) < 0 else '+'}{abs(int(addend)):016x}")
+                for _, place, kind, symbol, addend in said if kind != "-"]
+        relative = [line for line in listed.split("\n") if line[25:29] == "RELR"]
+        is_refused, wanted = "\n! " in "\n" + listed, wanted[len(relative):]
+        # A fault of a word or of a name ends the listing alone.
+        wrong = "" if is_refused else same(bool(relative), any(kind == "-" for _, _, kind, _, _ in said))
+        return wrong or same(wanted, rows[:len(wanted)] if is_refused else rows)
 
     def cut_wrong(self, path, status, numbers, text, wanted):
         """What is wrong with a listing within a budget, compared with the program's: each is whole, or a prefix of whole

@@ -112,6 +112,21 @@ static void call_place(void) {
     elfsee_apply_lent(file, file_len, &LIMITS, section, &layout, room, ROOM, out, OUT, &missing, &end);
 }
 
+static void call_images(void) {
+    static uint8_t window[1 << 16];
+    struct elfsee_image_items items = {0, 0, 0, 0, 1, 0};
+    struct elfsee_lacking lacking[64];
+    struct elfsee_short_relocation shorts;
+    uint64_t index = 0, word;
+    uint32_t table;
+    elfsee_image(file, file_len, &LIMITS, section, &items, room, ROOM, window, section % 2 ? 16 : sizeof window, out, OUT, &end);
+    elfsee_next_lacking(file, file_len, &LIMITS, &items, room, ROOM, &index, lacking, 64, &end);
+    for (table = ELFSEE_AT_RELR; table <= ELFSEE_AT_JMPREL; table += 1)
+        elfsee_located_relocations(file, file_len, &LIMITS, table, room, ROOM, &rows, &end);
+    elfsee_next_short_relocations(file, file_len, &rows, &shorts, 1);
+    elfsee_next_relative_words(file, file_len, &rows, &word, 1);
+}
+
 static void call_versions(void) {
     struct elfsee_version_records records;
     struct elfsee_version_record record;
@@ -227,6 +242,7 @@ static const struct {
              {"apply", call_apply, 1},     {"symbols", call_symbols, 1}, {"relocations", call_relocations, 1},
              {"dynamic", call_dynamic, 1},     {"headers", call_headers, 1},
              {"within", call_within, 1},       {"apply_lent", call_place, 1}, {"versions", call_versions, 1},
+             {"images", call_images, 1},
              {"notes", call_notes, 1},     {"members", call_members, 0}};
 enum { COUNT = sizeof CALLS / sizeof *CALLS };
 
