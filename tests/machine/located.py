@@ -22,12 +22,12 @@ import sys
 sys.dont_write_bytecode = True
 sys.path[:0] = [os.path.join(os.path.dirname(os.path.realpath(__file__)), "..", "common")]
 from machine_files import elf_files
+from readelf_rows import READELF_SYMBOL
 from testing import Counts, option_reader, program_of
 
 PLACES = ("/usr/bin", "/usr/lib")
 HEADER = re.compile("'(.*)' relocation section at offset")
 ADDRESS = re.compile("[0-9a-f]{16}")
-SYMBOL = re.compile(" *[0-9]+: [0-9a-f]{16} ")
 SECONDS = 300
 
 counts = Counts()
@@ -43,7 +43,7 @@ def programs_and_libraries(places):
 
 
 def rows_of_elfsee(program, part, path):
-    words = [program, "show", "--gnu", "--by-segments", "--only", part, "--json", path]
+    words = [program, "show", "--gnu", "--by-segments", "--only", part, "--names", "4096", "--json", path]
     answer = subprocess.run(words, capture_output=True, timeout=SECONDS)
     return [json.loads(line) for line in answer.stdout.splitlines()]
 
@@ -54,20 +54,24 @@ def lines_of_readelf(option, path):
     return answer.stdout.decode("latin1").splitlines()
 
 
+def word_of(text, name):
+    """A word of readelf, or for a number of another system its name in GNU's."""
+    return name if text == "<OS specific>: 10" else text
+
+
 def same_symbol(row, line):
-    """A line of readelf has the same symbol; behind the name it has the version."""
-    index, value, size, kind, binding, visibility, place, *name = line.split()
-    others = (int(index[:-1]), int(value, 16), int(size, 0), kind, binding, visibility, place.removeprefix("[").removesuffix("]"))
-    mine = tuple(row[key] for key in ("index", "value", "size", "type", "binding", "visibility", "place"))
-    shown = name[0].partition("@")[0] if name else ""
-    return mine[:-1] + (str(mine[-1]),) == others and row["name"].partition("@")[0] == shown
+    """A line of readelf has the same symbol; after the name it has the version."""
+    index, value, size, kind, binding, visibility, place, name = READELF_SYMBOL.fullmatch(line).groups()
+    other = {"index": int(index), "value": int(value, 16), "size": int(size, 0), "type": word_of(kind, "IFUNC"),
+             "binding": word_of(binding, "UNIQUE"), "visibility": visibility, "place": place, "name": name.partition("@")[0]}
+    return {**row, "place": str(row["place"]), "name": row["name"].partition("@")[0]} == {"line": "Y", "table": row["table"], **other}
 
 
 def other_symbol(program, path):
     rows = rows_of_elfsee(program, "symbols", path)
     if any(row["line"] != "Y" for row in rows):
         return f"symbols are refused: {rows[-1]}"
-    lines = [line for line in lines_of_readelf("-s", path) if SYMBOL.match(line)]
+    lines = [line for line in lines_of_readelf("-s", path) if READELF_SYMBOL.fullmatch(line)]
     if len(lines) != len(rows) and len(lines) > 1:
         return f"{len(rows)} symbols, readelf has {len(lines)}"
     return next((f"{row} and {line}" for row, line in zip(rows, lines) if not same_symbol(row, line)), "")

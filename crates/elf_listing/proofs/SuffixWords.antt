@@ -4,11 +4,17 @@ use Rattle.std.proofs.lemmas.Bool.{eq-eqb, le-ltb, lt-ltb, ne_eqb}
 use Rattle.elf_model.specs.Prelude.{NoSuffix, Suffix, entry_at, entry_count, is_default, number_in, section_at, st_shndx, suffix_at, symbol_suffix, versym, word_suffix}
 use Rattle.elf_model.specs.declared.causes.Refusal.{Refusal}
 use Rattle.elf_model.specs.declared.causes.Cause.TheVariants.{VersionCut}
+use Rattle.elf_table.specs.Prelude.{IsOfRead}
 use Rattle.elf_table.specs.declared.fault.Fault.{Fault}
 use Rattle.elf_table.specs.declared.names.NameEnd.{NameEnd}
 use Rattle.elf_table.specs.declared.fault.Fault.TheVariants.{Refused, Source}
 use Rattle.elf_listing.specs.Prelude.{AreSuffixes, SuffixNamed, SuffixRead, number_reported}
 use Rattle.elf_listing.specs.declared.suffixes.VersionLookup.{VersionLookup}
+
+-- the entry was not read
+pub suffix_unread : (fault : Fault) (version : List ℕ) (answer : Result Suffix Refusal) → IsOfRead fault → SuffixRead (Err fault) version answer
+suffix_unread (Refused refusal) version answer read = λ other. absurd (other read)
+suffix_unread (Source fault at) version answer read = tt
 
 module _ (file : List ℕ) (table : ℕ) (suffixes : VersionLookup) (are : AreSuffixes file table suffixes) (cap symbol_at index : ℕ) where
   suffix_is : symbol_suffix file cap table symbol_at index ≡ suffix_at file cap (section_at file are.section) symbol_at index

@@ -46,8 +46,9 @@ returns g c = record {
       let size = c.args.listing.now.file.loaded.size in
       let few = c.in_ok-count.ensures.few in
       let table = rw c.args.tables.now.symbols.rows at (size_within c.args.tables.now.symbols.table size c.requires.symbols.table) in
-      let rows : c.in_ok-count.count * 24 ≤ size = omega (arith, few, table) in
-      let most = hashed_most size c.args.listing.now.style.cap.bytes c.in_ok-count.count _ _ c.args.listing.now.viewed.fits c.requires.table rows in
+      let count : c.new-table.result.count ≡ c.in_ok-count.count = ap (λ (t : TableRange). t.count) c.new-table.ensures in
+      let rows : c.new-table.result.count * 24 ≤ size = omega (arith, few, table, count) in
+      let most = hashed_most size c.args.listing.now.style.cap.bytes c.new-table.result.count _ _ c.args.listing.now.viewed.fits c.requires.table rows in
       SpentCredit-after _ _ _ _ _ _ _ _ _ _ (omega (arith, most)) c.in_ok-count.ensures.did.costs.reads c.list_rows.ensures.spent;
   shows = λ told file held is.
       let after = c.symbol_count.ensures.did.costs.reads.keeps.same_file ∙ held in

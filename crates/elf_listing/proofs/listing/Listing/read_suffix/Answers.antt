@@ -7,7 +7,7 @@ use Rattle.elf_note.proofs.SpendsLaws.{SpendsAtMost-none}
 use Rattle.elf_table.specs.declared.names.NameEnd.{NameEnd}
 use Rattle.elf_listing.specs.SuffixNames.{number_reported}
 use Rattle.elf_listing.proofs.SuffixShown.{ListingReads-more, ListingReads-then}
-use Rattle.elf_listing.proofs.SuffixWords.{default_none, default_of, named_failed, named_read, suffix_cut, suffix_named, suffix_none}
+use Rattle.elf_listing.proofs.SuffixWords.{default_none, default_of, named_failed, named_read, suffix_cut, suffix_named, suffix_none, suffix_unread}
 use Rattle.elf_listing.proofs.listing.Listing.read_suffix.Goals as goal
 
 pub returns-then-index-len : goal.returns-then-index-len
@@ -17,6 +17,17 @@ returns-then-index-len g c = record {
   read = λ file held table symbol_at are defined.
       rw c.refused.ensures (λ other. suffix_cut file table c.args.suffixes.now are c.args.self.now.style.cap.bytes symbol_at c.args.index (omega (arith, c.if-index-len.true, c.len.ensures)));
 }
+
+pub returns-in_err-word : goal.returns-in_err-word
+returns-in_err-word g c =
+    let p = err_from_is_err_and c.from_residual.result c.from_residual.ensures.1 in
+    rw (p.1, p.2)
+    (record {
+      fetches = ListingReads-then {X = Unit {0}} _ _ _ tt (Err c.in_err-word.field-0.0) 0 _ _ (omega arith)
+          (record { same_src = refl; same_out = refl; same_file = refl; same_style = refl }, refl, SpendsAtMost-none _ _ _ _ (omega arith), tt) c.in_err-word.ensures.fetches;
+      kept = c.in_err-word.ensures.kept;
+      read = λ file held table symbol_at are defined. suffix_unread _ _ _ (c.in_err-word.ensures.read file held);
+    })
 
 pub returns-then-number-lt2 : goal.returns-then-number-lt2
 returns-then-number-lt2 g c =
