@@ -37,7 +37,7 @@ from callers_cases.module import (check_arguments, check_budgets, check_collecte
                                   check_kinds, check_opened, check_places, check_pointers, check_rooms,
                                   check_small_files, check_spelt, check_threads, check_versioned, check_wheel,
                                   check_words)
-from callers_cases.pages import check_harden, check_page, check_readme, check_tables_of_page
+from callers_cases.pages import check_harden, check_images_of_page, check_page, check_readme, check_tables_of_page
 from callers_cases.rust import (check_package, check_relocate, check_spaces, compare_in_rust, compiled_in_rust,
                                 members_in_rust)
 from callers_cases.types import check_constants, check_declared, check_structs, check_types
@@ -83,6 +83,7 @@ def check_all(counts, program, library, folder, words):
     check_declared(counts, elfsee)
     check_structs(counts, elfsee, folder, rust.get("layout"))
     check_page(counts, program, library, folder, bool(rust))
+    check_images_of_page(counts, library, folder, bool(rust))
     check_tables_of_page(counts)
     check_readme(counts)
     check_words(counts, elfsee)

@@ -7,5 +7,7 @@ pub returns-clause-images : goal.returns-clause-images
 returns-clause-images c =
     let args = c.args in
     let wide : 16 ≤ length args.window.now = omega (arith, c.if-window-lt-WINDOW_BYTES.false) in
-    images args.limits.now args.items.now (length args.room.now) (length args.window.now) args.out.now c.write_segment-written.new.out _ c.write_segment-written.new.outcome.told
+    let start = c.clear.new.self in
+    let end = record { at = start.at; written = c.match-outcome.end; asked = c.short-end.result; cause = start.cause; none = start.none } in
+    images args.limits.now args.items.now (length args.room.now) (length args.window.now) args.out.now c.write_segment-written.new.out end c.write_segment-written.new.outcome.told
     (c.in-Some.ensures.0, c.in-Some-lend.ensures.0) wide c.write_segment-written.ensures.made
