@@ -6,7 +6,7 @@
 It uses files of the machine, objects and libraries that gcc makes here, and copies of both that are
 changed by a generator with a seed: the text that the module library/python/elfsee
 returns is what the program prints, each of its rows makes the line of the listing, and refusals have
-the listing's cause and place; lookups and applied sections are the program's. The crate library/rust
+the listing's cause and place; lookups, applied sections and images of segments are the program's. The crate library/rust
 must give the same rows as the module. The members of archives, also of odd ones, are those that the
 program lists. The structs of both have the layout of C, and what both declare is what library/elfsee.h declares. Arguments
 outside their ranges or of other types are refused, files of few bytes end well, and the module passes no NULL to the
