@@ -6,7 +6,7 @@
 It uses files of the machine, objects and libraries that gcc makes here, and copies of both that are
 changed by a generator with a seed: the text that the module library/python/elfsee
 returns is what the program prints, each of its rows makes the line of the listing, and refusals have
-the listing's cause and place; lookups and applied sections are the program's. The crate library/rust
+the listing's cause and place; lookups, applied sections and images of segments are the program's. The crate library/rust
 must give the same rows as the module. The members of archives, also of odd ones, are those that the
 program lists. The structs of both have the layout of C, and what both declare is what library/elfsee.h declares. Arguments
 outside their ranges or of other types are refused, files of few bytes end well, and the module passes no NULL to the
@@ -37,7 +37,7 @@ from callers_cases.module import (check_arguments, check_budgets, check_collecte
                                   check_kinds, check_opened, check_places, check_pointers, check_rooms,
                                   check_small_files, check_spelt, check_threads, check_versioned, check_wheel,
                                   check_words)
-from callers_cases.pages import check_harden, check_page, check_readme, check_tables_of_page
+from callers_cases.pages import check_harden, check_images_of_page, check_page, check_readme, check_tables_of_page
 from callers_cases.rust import (check_package, check_relocate, check_spaces, compare_in_rust, compiled_in_rust,
                                 members_in_rust)
 from callers_cases.types import check_constants, check_declared, check_structs, check_types
@@ -83,6 +83,7 @@ def check_all(counts, program, library, folder, words):
     check_declared(counts, elfsee)
     check_structs(counts, elfsee, folder, rust.get("layout"))
     check_page(counts, program, library, folder, bool(rust))
+    check_images_of_page(counts, library, folder, bool(rust))
     check_tables_of_page(counts)
     check_readme(counts)
     check_words(counts, elfsee)

@@ -7,7 +7,8 @@ Over fixtures, ELF files of the machine, objects that gcc makes here, files that
 copies of all these: a listing is byte for byte the program's, with the same refusal, with any room it is
 given, and a prefix of it if there is too little; a lookup and a section that is written are the program's;
 all rows, read one by one, are the rows of the listing, also for copies without section headers; the members of an
-archive, also of odd ones, are the lines that the program lists. With a budget of as
+archive, also of odd ones, are the lines that the program lists; images of segments, what they lack, and the relocations
+that dynamic entries locate are the program's. With a budget of as
 many bytes as a listing or a lookup read it answers the same, and with one less it is refused. All caller's buffers
 are next to pages that cannot be touched (tests/common/library_cases/calls.c). --all takes every ELF file of the machine
 below /usr, and 10,000 changed copies, which takes an hour; N jobs compare N files at once.

@@ -110,6 +110,35 @@ def check_page(counts, program, library, folder, has_rust):
                      done.returncode == 1 and done.stdout == 2 * needed and told, done)
 
 
+def check_images_of_page(counts, library, folder, has_rust):
+    """The programs of docs/LIBRARY.md that write images, of which that in C is examples/image.c, print the same."""
+    blocks, answers = blocks_of_page("docs/LIBRARY.md"), {}
+    environment = dict(os.environ, PYTHONPATH=os.path.join(LIBRARY, "python"))
+    texts = {language: next(text for text in blocks[language] if "lacking(" in text) for language in ("python", "rust")}
+    libc = re.search(r'"(/lib/\S*libc[^"]*)"', texts["python"])[1]
+    if not os.path.exists(libc):
+        print("not run: the programs that write images, as %s is missing" % libc)
+        return
+    done = subprocess.run([sys.executable, "-B", "-c", texts["python"]], env=environment, capture_output=True, check=False)
+    answers["python"] = done.stdout.decode().split("\n")[:-1]
+    path = os.path.join(folder, "image_of_page")
+    if shutil.which("gcc"):
+        subprocess.run(["gcc", "-Wall", "-Wextra", "-Werror", "-I" + LIBRARY, os.path.join(TOP, "examples", "image.c"),
+                        os.path.join(library, "libelfsee.a"), "-o", path], check=True)
+        lines = run(path, "/bin/ls", libc)[1].decode().split("\n")[:-1]
+        answers["c"] = [line for line in lines if not line.startswith("missing: ")]
+        counts.check("the program that writes images names what is missing", len(lines) > len(answers["c"]), lines)
+    if has_rust:
+        with open(path + ".rs", "w", encoding="utf-8") as file:
+            file.write(texts["rust"])
+        subprocess.run(["rustc", "--edition", "2021", "-O", "--extern", "elfsee=" + folder + "/libelfsee.rlib", path + ".rs",
+                        "-o", path], check=True)
+        answers["rust"] = run(path)[1].decode().split("\n")[:-1]
+    for language, lines in answers.items():
+        counts.same("the images of the page in %s" % language, (answers["python"], True),
+                    (lines, any(not line.endswith(" 0") for line in lines)))
+
+
 def check_tables_of_page(counts):
     """The tables of docs/LIBRARY.md have each command and option of the program, as its completions do, and each call and
     flag of the header; they name no other."""
