@@ -3,3 +3,4 @@ pub mod Items
 pub mod Values
 pub mod Within
 pub mod Missing
+pub mod Relocated
