@@ -1,3 +1,6 @@
 pub mod AliveSteps
+pub mod EntrySteps
 pub mod ItemSteps
+pub mod PlaceSteps
 pub mod StoredSteps
+pub mod SymbolSteps

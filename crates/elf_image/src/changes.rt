@@ -1,6 +1,7 @@
 //! What a file's relocations depend on, and what they change.
-ghost use Rattle.std.specs.Prelude.{◌≡◌, ◌+◌, ◌*◌, ◌^◌, ◌<◌, ◌≤◌, IfOk};
+ghost use Rattle.std.specs.Prelude.{◌≡◌, ◌+◌, ◌*◌, ◌^◌, ◌<◌, ◌≤◌, ◌&&◌, nat_lt, IfOk};
 ghost use Rattle.elf_source.specs.Prelude.{KeepsSource};
+ghost use Rattle.elf_image.specs.Relocated.{is_among, is_holder};
 ghost use Rattle.elf_image.specs.Within.{RelocationsWithin};
 
 use crate::dynamic_rows::{ImageRows, image_rows, no_rows};
@@ -47,7 +48,17 @@ pub(crate) struct Relocations {
     /// The address and the size of the dynamic entries.
     pub(crate) dynamic: (u64, u64),
     /// The segments that hold the first byte of a table.
-    pub(crate) table_segments: [Option<u16>; 4],
+    pub(crate) table_segments: TableSegments,
+}
+
+/// The segments that hold the first byte of each table that says how a file is relocated, and of
+/// the symbols.
+#[derive(Clone, Copy)]
+pub(crate) struct TableSegments {
+    pub(crate) compact: Option<u16>,
+    pub(crate) addends: Option<u16>,
+    pub(crate) calls: Option<u16>,
+    pub(crate) symbols: Option<u16>,
 }
 
 /// The bytes that a relocation stores.
@@ -83,20 +94,34 @@ pub(crate) enum EntryResult<'a> {
     Lacks(Cause),
 }
 
-impl Relocations {
-    /// Returns `true` if a segment holds the first byte of a table that says how the file is
-    /// relocated.
-    pub(crate) fn has_table(&self, segment: u16) -> bool {
-        for holder in &self.table_segments {
-            if *holder == Some(segment) {
-                return true;
-            }
-        }
-        false
+impl TableSegments {
+    /// Returns `true` if a segment is one of them.
+    pub(crate) fn contains(&self, segment: u16) -> bool
+        ensures { result ≡ is_among self.now segment }
+    {
+        is_holder(self.compact, segment)
+            || is_holder(self.addends, segment)
+            || is_holder(self.calls, segment)
+            || is_holder(self.symbols, segment)
     }
+}
 
+/// Returns `true` if a segment is the one that holds something, if one does.
+fn is_holder(holder: Option<u16>, segment: u16) -> bool
+    ensures { result ≡ is_holder holder segment }
+{
+    match holder {
+        Some(holder) => holder == segment,
+        None => false,
+    }
+}
+
+impl Relocations {
     /// Returns `true` if `width` bytes at an address meet the dynamic entries.
-    pub(crate) fn meets_dynamic(&self, address: u64, width: u64) -> bool {
+    pub(crate) fn meets_dynamic(&self, address: u64, width: u64) -> bool
+        ensures { result ≡ (nat_lt address (self.now.dynamic.0 + self.now.dynamic.1)
+            && nat_lt self.now.dynamic.0 (address + width)) }
+    {
         let (dynamic, size) = self.dynamic;
         u128::from(address) < u128::from(dynamic) + u128::from(size)
             && u128::from(dynamic) < u128::from(address) + u128::from(width)
@@ -166,17 +191,17 @@ fn table_segments(
     view: &ExecutionView<'_>,
     tables: &ImageTables,
     symbols: Option<DynEntry>,
-) -> [Option<u16>; 4] {
+) -> TableSegments {
     let symbols = match symbols {
         Some(row) => holder(view, row.value, 1),
         None => None,
     };
-    [
-        table_segment(view, &tables.compact),
-        table_segment(view, &tables.addends),
-        table_segment(view, &tables.calls),
+    TableSegments {
+        compact: table_segment(view, &tables.compact),
+        addends: table_segment(view, &tables.addends),
+        calls: table_segment(view, &tables.calls),
         symbols,
-    ]
+    }
 }
 
 /// Returns the segment that holds the first byte of a table, if that has rows.
