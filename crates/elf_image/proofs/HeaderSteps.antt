@@ -1,8 +1,8 @@
 -- The checks of the LOAD program headers, one by one, and of the one that is wanted.
-use Rattle.std.proofs.Common.{◌≡◌, ℕ, zero, suc, ◌+◌, ◌-◌, ◌*◌, ◌^◌, ◌<◌, ◌≤◌, ◌==◌, ◌||◌, not, nat_lt, Bool, true, false, List, [], ◌∷◌, ◌++◌, length, flat_map, Option, None, Some, Result, Ok, Err, refl, sym, ap, subst, ◌∙◌, arith}
+use Rattle.std.proofs.Common.{◌≡◌, ℕ, zero, suc, ◌+◌, ◌^◌, ◌<◌, ◌≤◌, ◌||◌, nat_lt, Bool, true, false, List, [], ◌∷◌, ◌++◌, length, flat_map, None, Some, Result, Ok, Err, refl, sym, ap, subst, ◌∙◌, arith}
 use Rattle.std.proofs.lemmas.Bool.{eq-eqb, le-ltb, lt-ltb, ltb-false, ne_eqb}
 use Rattle.elf_model.specs.Apply.{places_from}
-use Rattle.elf_model.specs.Checks.{Check, first_refusal, is_outside, refuse}
+use Rattle.elf_model.specs.Checks.{Check, first_refusal, is_outside}
 use Rattle.elf_model.specs.ImageChecks.{kind_checks, requested_checks, segment_load_checks, segments_load_checks}
 use Rattle.elf_model.specs.Numbers.{EM_X86_64, PT_LOAD}
 use Rattle.elf_model.specs.Prelude.{e_machine, e_phnum, e_type, p_filesz, p_memsz, p_offset, p_type, p_vaddr, segment_at}

@@ -1,14 +1,14 @@
 -- The place of a relocation: its segment, and its checks.
-use Rattle.std.proofs.Common.{◌≡◌, ℕ, ◌+◌, ◌<◌, ◌≤◌, ◌==◌, ◌&&◌, ◌||◌, not, nat_lt, Bool, true, false, List, [], ◌∷◌, None, Some, refl, sym, ap, ◌∙◌, arith}
+use Rattle.std.proofs.Common.{◌≡◌, ℕ, ◌+◌, ◌<◌, ◌≤◌, ◌==◌, ◌&&◌, ◌||◌, not, nat_lt, Bool, true, false, List, None, Some, refl, sym, ap, ◌∙◌, arith}
 use Rattle.std.proofs.lemmas.Bool.{and_from, and_parts, eq-eqb, eqb-true, le-ltb, not_from_false}
 use Rattle.std.specs.List.{list_any}
-use Rattle.elf_model.specs.Checks.{Check, first_refusal, refuse}
+use Rattle.elf_model.specs.Checks.{first_refusal}
 use Rattle.elf_model.specs.Image.{ImageSource, has_table, holder_of, holds_in_memory, meets_rows, place_checks, read_addresses}
 use Rattle.elf_model.specs.Numbers.{PT_LOAD}
 use Rattle.elf_model.specs.Prelude.{e_phnum, p_memsz, p_type, p_vaddr, segment_at}
 use Rattle.elf_model.specs.TraitNumbers.{PF_W}
 use Rattle.elf_model.specs.Traits.{has_text_relocations, permits}
-use Rattle.elf_model.specs.declared.causes.Cause.TheVariants.{PlaceOutside, TableWritten}
+use Rattle.elf_model.specs.declared.causes.Cause.TheVariants.{PlaceOutside}
 use Rattle.elf_model.proofs.ImageHolders.{holder_is_one}
 use Rattle.elf_model.proofs.LookupSteps.{first_that-holds}
 use Rattle.elf_image.specs.Relocated.{IsHeldRange, IsImageOf, IsRangeIn, held_range_checks}

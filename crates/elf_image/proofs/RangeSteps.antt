@@ -1,17 +1,16 @@
 -- The ranges of two tables of entries.
-use Rattle.std.proofs.Common.{◌≡◌, ℕ, ◌+◌, ◌-◌, ◌*◌, ◌<◌, ◌≤◌, ◌==◌, ◌&&◌, not, nat_lt, Bool, true, false, List, [], ◌∷◌, ◌++◌, Option, None, Some, Ok, Err, refl, sym, ap, subst, ◌∙◌, arith}
+use Rattle.std.proofs.Common.{◌≡◌, ℕ, ◌+◌, ◌-◌, ◌*◌, ◌<◌, ◌≤◌, ◌==◌, ◌&&◌, not, nat_lt, Bool, true, false, List, [], ◌∷◌, ◌++◌, Option, None, Some, refl, sym, ap, subst, ◌∙◌, arith}
 use Rattle.std.proofs.lemmas.Bool.{and_parts, eq-eqb, eqb-true, le-ltb, lt-ltb, ne_eqb}
 use Rattle.elf_model.specs.Apply.{places_from}
-use Rattle.elf_model.specs.Checks.{Check, first_refusal, refuse}
+use Rattle.elf_model.specs.Checks.{first_refusal, refuse}
 use Rattle.elf_model.specs.Image.{count_before, entry_ranges, first_entries}
 use Rattle.elf_model.specs.ImageChecks.{LoadedTable, entries_end, linkage_checks, linkage_table, rela_table}
 use Rattle.elf_model.specs.LoaderScope.{checks_of_row, tagged_row}
 use Rattle.elf_model.specs.Numbers.{DT_JMPREL}
 use Rattle.elf_model.specs.declared.causes.Cause.TheVariants.{Unsupported}
 use Rattle.elf_table.specs.Prelude.{TableRange}
-use Rattle.elf_image.specs.Located.{IsMapped, has_both, mapped_end}
+use Rattle.elf_image.specs.Located.{IsMapped, mapped_end}
 use Rattle.elf_image.specs.Relocated.{entry_places, row_count}
-use Rattle.elf_image.specs.declared.tables.ImageTables.{ImageTables}
 use Rattle.elf_image.specs.declared.tables.MappedTable.{MappedTable}
 
 -- the entries of a table

@@ -1,20 +1,19 @@
 -- The dynamic entries that were found so far, and the check of the next.
-use Rattle.std.proofs.Common.{◌≡◌, ℕ, zero, suc, ◌+◌, ◌*◌, ◌/◌, ◌<◌, ◌==◌, ◌&&◌, ◌||◌, not, Bool, true, false, List, [], ◌∷◌, length, map, Option, None, Some, refl, sym, ap, subst, ◌∙◌, arith}
+use Rattle.std.proofs.Common.{◌≡◌, ℕ, zero, suc, ◌+◌, ◌/◌, ◌<◌, ◌==◌, ◌&&◌, ◌||◌, Bool, true, false, List, [], ◌∷◌, length, map, Option, None, Some, refl, sym, ap, subst, ◌∙◌, arith}
 use Rattle.std.specs.Prelude.{is_some, option_map}
 use Rattle.std.specs.List.{list_any}
 use Rattle.std.proofs.lemmas.Bool.{eq-eqb, eqb-true, ne_eqb}
 use Rattle.elf_model.specs.Apply.{places_from}
 use Rattle.elf_model.specs.Checks.{Check, first_refusal, refuse}
-use Rattle.elf_model.specs.ImageChecks.{image_rows_of, image_tags, is_repeated, repeat_checks}
+use Rattle.elf_model.specs.ImageChecks.{image_tags, is_repeated, repeat_checks}
 use Rattle.elf_model.specs.LoaderScope.{tagged_row}
 use Rattle.elf_model.specs.Prelude.{d_tag, dynamic_at, dynamic_count, p_filesz, p_offset}
 use Rattle.elf_model.specs.declared.causes.Cause.TheVariants.{Repeat}
-use Rattle.elf_model.specs.declared.causes.Refusal.{Refusal}
 use Rattle.elf_table.specs.Tables.{TableRange}
 use Rattle.elf_hash.specs.Prelude.{dynamic_entry_at, entry_here, first_entry, listed_entry, tagged_entry}
 use Rattle.elf_hash.specs.declared.dyn_entry.DynEntry.{DynEntry}
 use Rattle.elf_hash.proofs.EntryLaws.{entry_end, entry_step, listed_is, tagged_here}
-use Rattle.elf_hash.proofs.SegmentLaws.{row_none, row_some}
+use Rattle.elf_hash.proofs.SegmentLaws.{row_some}
 use Rattle.elf_image.specs.Located.{AreImageRows, found_rows, is_image_tag, row_in, rows_with}
 use Rattle.elf_image.specs.declared.dynamic_rows.ImageRows.{ImageRows}
 

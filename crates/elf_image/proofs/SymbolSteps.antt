@@ -4,8 +4,7 @@ use Rattle.std.specs.Prelude.{IfSome}
 use Rattle.std.proofs.lemmas.Bool.{lt-ltb, ne_eqb}
 use Rattle.elf_model.specs.Checks.{first_refusal}
 use Rattle.elf_model.specs.ImageValues.{dynamic_symbol_checks, entry_symbol, is_thread_local, uses_no_symbol}
-use Rattle.elf_model.specs.LoaderScope.{segment_symbols, tagged_row}
-use Rattle.elf_model.specs.Numbers.{DT_SYMTAB}
+use Rattle.elf_model.specs.LoaderScope.{segment_symbols}
 use Rattle.elf_model.specs.Prelude.{r_sym}
 use Rattle.elf_model.specs.declared.causes.Cause.TheVariants.{Unsupported}
 use Rattle.elf_model.specs.declared.causes.Refusal.{Refusal}

@@ -1,12 +1,12 @@
 -- The tables that dynamic entries locate, and their checks.
-use Rattle.std.proofs.Common.{◌≡◌, ℕ, zero, suc, ◌+◌, ◌*◌, ◌/◌, ◌%◌, ◌<◌, ◌==◌, ◌&&◌, ◌||◌, not, Bool, true, false, List, [], ◌∷◌, ◌++◌, Option, None, Some, Result, Ok, Err, refl, sym, ap, subst, ◌∙◌, arith, append_assoc}
+use Rattle.std.proofs.Common.{◌≡◌, ℕ, zero, suc, ◌+◌, ◌*◌, ◌/◌, ◌%◌, ◌<◌, ◌==◌, ◌||◌, not, Bool, true, false, List, ◌++◌, Option, None, Some, Result, Ok, Err, refl, sym, ap, subst, ◌∙◌, arith}
 use Rattle.std.specs.Prelude.{is_some, option_map, unwrap_or}
-use Rattle.std.proofs.lemmas.Bool.{eq-eqb, ne_eqb}
-use Rattle.elf_model.specs.Checks.{Check, first_refusal, refuse}
-use Rattle.elf_model.specs.ImageChecks.{LoadedTable, addend_checks, image_symbol_checks, image_tags, linkage_table, loaded_if_located, loaded_table, located_checks, rela_table, relative_table, row_value}
-use Rattle.elf_model.specs.DynamicRelocations.{LocatedTable as IsLocated, form_by, form_if, form_size, located_table, table_mapped, tags_of}
+use Rattle.std.proofs.lemmas.Bool.{ne_eqb}
+use Rattle.elf_model.specs.Checks.{Check, first_refusal}
+use Rattle.elf_model.specs.ImageChecks.{LoadedTable, addend_checks, image_symbol_checks, image_tags, linkage_table, loaded_table, rela_table, row_value}
+use Rattle.elf_model.specs.DynamicRelocations.{LocatedTable as IsLocated, form_by, form_if, form_size, located_table}
 use Rattle.elf_model.specs.LoaderScope.{checks_of_row, rest_checks, rest_place, rest_size, segment_symbols, tagged_row}
-use Rattle.elf_model.specs.Numbers.{DT_JMPREL, DT_PLTREL, DT_REL, DT_RELA, DT_RELSZ, DT_SYMTAB}
+use Rattle.elf_model.specs.Numbers.{DT_JMPREL, DT_PLTREL, DT_REL, DT_RELSZ, DT_SYMTAB}
 use Rattle.elf_model.specs.Prelude.{d_un}
 use Rattle.elf_model.specs.declared.causes.Cause.TheVariants.{Unsupported}
 use Rattle.elf_model.specs.declared.causes.Refusal.{Refusal}
@@ -16,8 +16,8 @@ use Rattle.elf_model.specs.declared.relocation_tables.RelocationTable.{Relocatio
 use Rattle.elf_model.specs.declared.relocation_tables.RelocationTable.TheVariants as table
 use Rattle.elf_table.specs.Prelude.{RefusedBy, TableRange}
 use Rattle.elf_table.specs.declared.fault.Fault.{Fault}
-use Rattle.elf_table.specs.declared.fault.Fault.TheVariants.{Refused, Source}
-use Rattle.elf_hash.specs.Prelude.{AreTableEntries, IsEntryOf, dynamic_entry_at, located_by}
+use Rattle.elf_table.specs.declared.fault.Fault.TheVariants.{Refused}
+use Rattle.elf_hash.specs.Prelude.{AreTableEntries, dynamic_entry_at, located_by}
 use Rattle.elf_hash.specs.declared.dyn_entry.DynEntry.{DynEntry}
 use Rattle.elf_hash.specs.declared.relocation_tables.TableEntries.{TableEntries}
 use Rattle.elf_hash.specs.declared.relocation_tables.TableLocation.{TableLocation}
@@ -26,7 +26,7 @@ use Rattle.elf_hash.proofs.RelocationTableLaws.{no_address}
 use Rattle.elf_hash.proofs.SegmentLaws.{IsRest, row_none, row_some}
 use Rattle.elf_hash.proofs.SettleLaws.{passed_both, refused_back, refused_front}
 use Rattle.elf_model.proofs.CheckSteps.{first_refusal-back}
-use Rattle.elf_image.specs.Located.{AreImageRows, ChecksThen, HasOneForm, HasTables, IsMapped, MapsLocated, MapsTable, found_rows, is_image_tag, kind_row_checks, plain_checks, row_in}
+use Rattle.elf_image.specs.Located.{AreImageRows, ChecksThen, HasOneForm, HasTables, IsMapped, MapsLocated, kind_row_checks, plain_checks, row_in}
 use Rattle.elf_image.specs.Relocated.{AreEntrySymbols}
 use Rattle.elf_image.specs.declared.dynamic_rows.ImageRows.{ImageRows}
 use Rattle.elf_image.specs.declared.tables.MappedTable.{MappedTable}

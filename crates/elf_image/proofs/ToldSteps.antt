@@ -1,6 +1,6 @@
 -- What dynamic entries say of relocations, also in a file without any.
-use Rattle.std.proofs.Common.{◌≡◌, ℕ, zero, suc, ◌+◌, ◌*◌, ◌/◌, ◌<◌, ◌≤◌, ◌==◌, ◌||◌, Bool, true, false, List, [], ◌∷◌, ◌++◌, length, map, take, drop, Option, None, Some, Result, Ok, Err, IfErr, refl, sym, ap, subst, ◌∙◌, arith, append_assoc}
-use Rattle.std.specs.Prelude.{is_some, option_map, option_to_list, unwrap_or}
+use Rattle.std.proofs.Common.{◌≡◌, ℕ, zero, suc, ◌+◌, ◌/◌, ◌<◌, ◌==◌, ◌||◌, Bool, true, false, List, [], ◌∷◌, ◌++◌, length, take, Option, None, Some, Result, Ok, Err, IfErr, refl, sym, ap, subst, ◌∙◌, arith, append_assoc}
+use Rattle.std.specs.Prelude.{is_some, option_map, unwrap_or}
 use Rattle.std.specs.List.{list_any}
 use Rattle.std.proofs.lemmas.List.{drop_all}
 use Rattle.std.proofs.lemmas.List.Folds.{list_any-append}
@@ -9,10 +9,10 @@ use Rattle.elf_model.specs.Bytes.{field, number}
 use Rattle.elf_model.specs.Checks.{Check, first_refusal}
 use Rattle.elf_model.specs.DynamicRelocations.{located_table, table_by, tags_of}
 use Rattle.elf_model.specs.Find.{first_that}
-use Rattle.elf_model.specs.Image.{has_table, holder_of, read_addresses}
-use Rattle.elf_model.specs.ImageChecks.{LoadedTable, addend_checks, dynamic_image_checks, image_rows_of, image_symbol_checks, image_tags, linkage_checks, linkage_table, loaded_table, rela_table, relative_table, repeat_checks}
+use Rattle.elf_model.specs.Image.{ImageSource, direct_changes, entry_ranges, has_table, holder_of, image_changes, read_addresses, relative_changes, relocation_changes, resolved_changes}
+use Rattle.elf_model.specs.ImageItems.{ItemValues}
+use Rattle.elf_model.specs.ImageChecks.{LoadedTable, addend_checks, dynamic_image_checks, image_rows_of, image_symbol_checks, linkage_checks, linkage_table, loaded_table, rela_table, relative_table, repeat_checks}
 use Rattle.elf_model.specs.LoaderScope.{dynamic_segment_index, tagged_row}
-use Rattle.elf_model.specs.Numbers.{DT_SYMTAB}
 use Rattle.elf_model.specs.Prelude.{d_tag, d_un, dynamic_count, dynamic_value, has_bits, listed_value, p_filesz, p_offset, p_vaddr, segment_at, segment_dynamic_checks}
 use Rattle.elf_model.specs.Traits.{dynamic_entry_value, has_text_relocations}
 use Rattle.elf_source.specs.Source.{CountedState}
@@ -23,10 +23,10 @@ use Rattle.elf_table.specs.Prelude.{CallReads, IsOfCheck, RefusedBy, TableRange,
 use Rattle.elf_table.proofs.LedgerLaws.{CallDid-stop}
 use Rattle.elf_table.specs.declared.fault.Fault.{Fault}
 use Rattle.elf_table.specs.declared.fault.Fault.TheVariants.{Refused, Source}
-use Rattle.elf_hash.specs.Prelude.{dynamic_entry_at, listed_entry, tagged_entry}
+use Rattle.elf_hash.specs.Prelude.{dynamic_entry_at, tagged_entry}
 use Rattle.elf_hash.specs.declared.dyn_entry.DynEntry.{DynEntry}
 use Rattle.elf_hash.proofs.EntryLaws.{listed_is}
-use Rattle.elf_image.specs.Located.{AreImageRows, AreImageTables, AreRowsAt, ChecksThen, IsMapped, entry_checks, found_rows, image_table_checks, loaded_addresses, located_checks_of, row_in, symbol_addresses}
+use Rattle.elf_image.specs.Located.{AreImageRows, AreRowsAt, ChecksThen, IsMapped, entry_checks, found_rows, image_table_checks, loaded_addresses, located_checks_of, row_in, symbol_addresses}
 use Rattle.elf_image.specs.Relocated.{AreRelrWords, ReadsAfter, entries_header, is_among, is_holder, relocation_checks, row_count}
 use Rattle.elf_image.specs.declared.changes.TableSegments.{TableSegments}
 use Rattle.elf_image.specs.declared.dynamic_rows.ImageRows.{ImageRows}
@@ -282,3 +282,27 @@ has_tables (Some entries) linkage some = refl
 pub reads_check : {X : Type 0} {a b : CountedState} {n : ℕ} (result : Result X Fault) → IfErr result IsOfCheck → CallReads a b None n → CallReads a b (fault_of_result result) n
 reads_check (Ok x) check p = p
 reads_check (Err fault) check p = (CallDid-stop {P = λ file. Unit {0}} fault check (record { costs = p; known = λ file held. tt })).costs
+
+-- ALL CHANGES of a file are those by the header of its entries, also without entries
+module _ (whole file : List ℕ) (items : ItemValues) where
+  abbrev by_entries : (at : ℕ) → ImageSource
+  by_entries at = record { whole = whole; file = file; at = at; items = items }
+
+  no_changes : relocation_changes (by_entries (length file)) ≡ []
+  unfolding relocation_changes relative_changes direct_changes resolved_changes entry_ranges
+  no_changes = rw (no_loaded file table.Relr, no_loaded file table.Rela, no_loaded file table.Jmprel, relocation_changes) refl
+
+  without_entries : dynamic_segment_index file ≡ None → image_changes whole file items ≡ []
+  unfolding image_changes
+  without_entries none = rw (none, image_changes) refl
+
+  changes_at : (index : ℕ) → dynamic_segment_index file ≡ Some index → image_changes whole file items ≡ relocation_changes (by_entries (segment_at file index))
+  unfolding image_changes
+  changes_at index some = rw (some, image_changes) refl
+
+  pub changes_are : image_changes whole file items ≡ relocation_changes (by_entries (entries_header file))
+  changes_are = go (dynamic_segment_index file) refl
+    where
+      go : (index : Option ℕ) → dynamic_segment_index file ≡ index → image_changes whole file items ≡ relocation_changes (by_entries (entries_header file))
+      go None none = without_entries none ∙ sym (ap (λ (at : ℕ). relocation_changes (by_entries at)) (no_header file none) ∙ no_changes)
+      go (Some index) some = changes_at index some ∙ sym (ap (λ (at : ℕ). relocation_changes (by_entries at)) (header_at file index some))

@@ -1,5 +1,5 @@
 -- The entries of the first program header of dynamic entries.
-use Rattle.std.proofs.Common.{ℕ, ◌/◌, ap, sym, ◌∙◌, arith}
+use Rattle.std.proofs.Common.{◌/◌, ap, sym, ◌∙◌, arith}
 use Rattle.std.proofs.lemmas.Result.{err_from_is_err_and}
 use Rattle.elf_model.specs.Prelude.{p_filesz, p_offset, segment_at, segment_dynamic_checks}
 use Rattle.elf_table.specs.Prelude.{TableRange, rows}

@@ -1,6 +1,5 @@
 -- By the entry of text relocations, or by the flag.
-use Rattle.std.proofs.Common.{refl, sym, ap, ◌∙◌, ◌||◌, Bool}
-use Rattle.elf_model.specs.Prelude.{has_bits}
+use Rattle.std.proofs.Common.{refl, sym, ◌∙◌}
 use Rattle.elf_image.proofs.ToldSteps.{text_by}
 use Rattle.elf_image.proofs.changes.has_text_relocations.Goals as goal
 

@@ -1,5 +1,5 @@
 -- The tables, the ranges, and what the entries say besides.
-use Rattle.std.proofs.Common.{◌≡◌, ℕ, ◌+◌, ◌*◌, ◌<◌, ap, ◌∙◌, arith}
+use Rattle.std.proofs.Common.{ℕ, ◌+◌, ◌*◌, ◌<◌, ap, ◌∙◌, arith}
 use Rattle.std.proofs.lemmas.Result.{err_from_is_err_and}
 use Rattle.elf_model.specs.ImageChecks.{linkage_checks, linkage_table, rela_table, relative_table}
 use Rattle.elf_model.specs.Prelude.{p_vaddr}

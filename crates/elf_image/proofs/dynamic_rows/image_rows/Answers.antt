@@ -1,5 +1,5 @@
 -- One more entry is read, no later one than the table's last, and none with the tag of one before it.
-use Rattle.std.proofs.Common.{◌≡◌, ℕ, suc, ◌+◌, ◌*◌, ◌/◌, List, Some, sym, ap, subst, ◌∙◌, arith}
+use Rattle.std.proofs.Common.{◌≡◌, ℕ, suc, ◌+◌, ◌/◌, List, Some, sym, ap, subst, ◌∙◌, arith}
 use Rattle.elf_model.specs.Checks.{first_refusal}
 use Rattle.elf_model.specs.Prelude.{dynamic_count, p_filesz, p_offset}
 use Rattle.elf_record.specs.Dyn.{IsDyn}

@@ -1,5 +1,5 @@
 -- The entries that were read so far, of which none has the tag of one before it.
-use Rattle.std.proofs.Common.{◌≡◌, ℕ, ◌+◌, ◌/◌, ◌≤◌, List, Some}
+use Rattle.std.proofs.Common.{◌≡◌, ℕ, ◌+◌, ◌/◌, List, Some}
 use Rattle.elf_model.specs.Checks.{first_refusal}
 use Rattle.elf_model.specs.ImageChecks.{repeat_checks}
 use Rattle.elf_model.specs.Prelude.{p_filesz, p_offset}

@@ -1,5 +1,5 @@
 -- The type of the entry, its symbol, its place and its bytes.
-use Rattle.std.proofs.Common.{◌≡◌, ℕ, ◌/◌, ◌%◌, ◌^◌, Some, inl, sym, ap, subst, ◌∙◌}
+use Rattle.std.proofs.Common.{◌≡◌, ℕ, ◌/◌, ◌%◌, ◌^◌, inl, sym, ap, subst, ◌∙◌}
 use Rattle.std.proofs.lemmas.Result.{err_from_is_err_and}
 use Rattle.elf_model.specs.Image.{ImageChange, change_of_type}
 use Rattle.elf_model.specs.ImageValues.{dynamic_type, entry_symbol}

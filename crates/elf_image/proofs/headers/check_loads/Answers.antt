@@ -1,5 +1,5 @@
 -- Program header by program header.
-use Rattle.std.proofs.Common.{◌≡◌, ℕ, suc, ◌+◌, ◌-◌, ◌*◌, ◌<◌, sym, ap, ◌∙◌, arith}
+use Rattle.std.proofs.Common.{◌≡◌, ℕ, suc, ◌+◌, ◌-◌, ◌*◌, sym, ap, ◌∙◌, arith}
 use Rattle.elf_model.specs.Checks.{first_refusal}
 use Rattle.elf_model.specs.Prelude.{e_phnum, segment_at}
 use Rattle.elf_image.proofs.HeaderSteps.{loads_all, loads_end, loads_left, loads_step, loads_stop}

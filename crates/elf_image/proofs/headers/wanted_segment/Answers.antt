@@ -1,8 +1,7 @@
 -- The program header that is wanted.
-use Rattle.std.proofs.Common.{◌≡◌, ℕ, ◌+◌, ◌*◌, ◌<◌, ◌≤◌, sym, ap, ◌∙◌, arith}
+use Rattle.std.proofs.Common.{◌≡◌, ℕ, ◌+◌, ◌*◌, ◌<◌, sym, ap, ◌∙◌, arith}
 use Rattle.std.proofs.lemmas.Bool.{ltb-true}
-use Rattle.elf_model.specs.Numbers.{PT_LOAD}
-use Rattle.elf_model.specs.Prelude.{e_phnum, p_filesz, p_memsz, p_offset, p_type, segment_at}
+use Rattle.elf_model.specs.Prelude.{e_phnum, segment_at}
 use Rattle.elf_image.proofs.HeaderSteps.{loads_within, no_header, other_type, small, too_large}
 use Rattle.elf_image.proofs.headers.wanted_segment.Goals as goal
 

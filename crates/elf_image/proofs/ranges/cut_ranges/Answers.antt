@@ -1,5 +1,5 @@
 -- The calls are the last of the other entries.
-use Rattle.std.proofs.Common.{◌≡◌, ℕ, ◌-◌, ◌<◌, ◌≤◌, sym, ap, ◌∙◌, arith}
+use Rattle.std.proofs.Common.{◌≡◌, ◌-◌, ◌<◌, ◌≤◌, sym, ap, ◌∙◌, arith}
 use Rattle.elf_model.specs.LoaderScope.{tagged_row}
 use Rattle.elf_model.specs.Numbers.{DT_JMPREL}
 use Rattle.elf_model.specs.declared.relocation_tables.RelocationTable.TheVariants.{Jmprel}

@@ -1,5 +1,5 @@
 -- The symbol is read where the table has it.
-use Rattle.std.proofs.Common.{◌≡◌, ◌<◌, arith}
+use Rattle.std.proofs.Common.{◌<◌, arith}
 use Rattle.elf_table.proofs.LedgerLaws.{CallDid-of}
 use Rattle.elf_table.specs.Prelude.{IsReadFault}
 use Rattle.elf_image.proofs.SymbolSteps.{stop_says, symbol_reads}

@@ -1,7 +1,7 @@
 -- The entries of the address, of the size, and of the rows.
 use Rattle.std.proofs.Common.{◌≡◌, ℕ, ◌==◌, Option, None, Some, Result, true, false, refl, sym, ap, subst, ◌∙◌}
 use Rattle.std.proofs.lemmas.Bool.{eq-eqb, ne_eqb}
-use Rattle.elf_model.specs.DynamicRelocations.{LocatedTable, form_by, form_if, located_table, table_mapped, tags_of}
+use Rattle.elf_model.specs.DynamicRelocations.{LocatedTable, form_by, located_table, table_mapped, tags_of}
 use Rattle.elf_model.specs.ImageChecks.{row_value}
 use Rattle.elf_model.specs.declared.causes.Refusal.{Refusal}
 use Rattle.elf_table.specs.Prelude.{TableRange}

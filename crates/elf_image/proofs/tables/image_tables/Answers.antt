@@ -1,5 +1,5 @@
 -- The checks of the tables, in their order.
-use Rattle.std.proofs.Common.{◌≡◌, ℕ, List, refl}
+use Rattle.std.proofs.Common.{ℕ, List, refl}
 use Rattle.std.proofs.lemmas.Result.{err_from_is_err_and}
 use Rattle.elf_model.specs.Checks.{Check}
 use Rattle.elf_model.specs.DynamicRelocations.{located_table}
