@@ -16,7 +16,7 @@ module _ (file : List ℕ) (tag : ℕ) where
   here_none : (at : ℕ) → (d_tag file at == tag) ≡ false → entry_here file at tag ≡ None
   here_none at t = rw (t, entry_here) refl
 
-  tagged_here : (at n : ℕ) → (d_tag file at == tag) ≡ true → tagged_entry file at (suc n) tag ≡ Some (dynamic_entry_at file at)
+  pub tagged_here : (at n : ℕ) → (d_tag file at == tag) ≡ true → tagged_entry file at (suc n) tag ≡ Some (dynamic_entry_at file at)
   unfolding tagged_entry
   tagged_here at n t = rw (t, tagged_entry) refl
 
@@ -33,13 +33,13 @@ module _ (file : List ℕ) (tag : ℕ) where
       go false t = ap (λ (x : Option DynEntry). first_entry x (tagged_entry file (at + 16) n tag)) (here_none at t) ∙ sym (tagged_more at n t)
 
   -- an entry that is searched in the one that a step yields, and then in those that are left
-  entry_step : (at n before : ℕ) (next : ℕ) (found : Option DynEntry) → before ≡ suc n → next ≡ at + 16
+  pub entry_step : (at n before : ℕ) (next : ℕ) (found : Option DynEntry) → before ≡ suc n → next ≡ at + 16
       → first_entry (first_entry found (entry_here file at tag)) (tagged_entry file next n tag) ≡ first_entry found (tagged_entry file at before tag)
   entry_step at n before next (Some entry) less there = refl
   entry_step at n before next None less there = rw (less, there) (tagged_suc at n)
 
   -- if no entry is left, it is the one found before
-  entry_end : (at n : ℕ) (found : Option DynEntry) → n ≡ 0 → first_entry found (tagged_entry file at n tag) ≡ found
+  pub entry_end : (at n : ℕ) (found : Option DynEntry) → n ≡ 0 → first_entry found (tagged_entry file at n tag) ≡ found
   unfolding tagged_entry
   entry_end at n (Some entry) z = refl
   entry_end at n None z = rw (z, tagged_entry) refl
@@ -82,7 +82,7 @@ module _ (file : List ℕ) (tag : ℕ) where
           ∙ (behind ∙ sym (ap (λ (x : Option ℕ). row_entry x base) (that_more base first n t))))
 
   -- so it is where the definitions say
-  listed_is : (at : ℕ) (table : TableRange) → table.at ≡ p_offset file at → table.count ≡ p_filesz file at / DYNAMIC_SIZE
+  pub listed_is : (at : ℕ) (table : TableRange) → table.at ≡ p_offset file at → table.count ≡ p_filesz file at / DYNAMIC_SIZE
       → listed_entry file table tag ≡ option_map (dynamic_entry_at file) (tagged_row file at tag)
   unfolding tagged_row
   listed_is at table place count =

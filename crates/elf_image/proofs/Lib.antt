@@ -1,3 +1,11 @@
 pub mod AliveSteps
+pub mod EntrySteps
+pub mod HeaderSteps
 pub mod ItemSteps
+pub mod PlaceSteps
+pub mod RangeSteps
+pub mod RowSteps
 pub mod StoredSteps
+pub mod SymbolSteps
+pub mod TableSteps
+pub mod ToldSteps

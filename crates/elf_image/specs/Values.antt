@@ -3,6 +3,7 @@ use Rattle.std.specs.Prelude.{ℕ, ◌≡◌, List, [], ◌++◌, Result, Ok, Er
 use Rattle.elf_model.specs.Bytes.{little}
 use Rattle.elf_model.specs.ImageItems.{FromPointer, ItemValues, InBlock, ModuleId, ThreadValue}
 use Rattle.elf_model.specs.declared.causes.Cause.{Cause}
+use Rattle.elf_model.specs.declared.causes.Cause.TheVariants.{Budget}
 use Rattle.elf_model.specs.declared.dynamic_types.DynamicType.{DynamicType}
 use Rattle.elf_model.specs.declared.dynamic_types.DynamicType.TheVariants as type
 use Rattle.elf_record.specs.Sym.{IsSym}
@@ -54,3 +55,14 @@ stored_as (stored.Copied bytes) = copy_bytes bytes
 abbrev pub bytes_or_cause : Result RelocatedBytes Cause → Result (List ℕ) Cause
 bytes_or_cause (Ok bytes) = Ok (stored_as bytes)
 bytes_or_cause (Err cause) = Err cause
+
+-- bytes that are given in full, not those of a word to which the load address is added
+abbrev pub IsGiven : RelocatedBytes → Type 0
+IsGiven stored.Based = ⊥
+IsGiven (stored.Value patch) = Unit {0}
+IsGiven (stored.Pair first second) = Unit {0}
+IsGiven (stored.Copied bytes) = Unit {0}
+
+-- the cause for which there is no value is no limit on reads
+abbrev pub IsValueCause : Cause → Type 0
+IsValueCause cause = cause ≡ Budget → ⊥

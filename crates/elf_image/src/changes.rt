@@ -1,13 +1,29 @@
 //! What a file's relocations depend on, and what they change.
-ghost use Rattle.std.specs.Prelude.{◌≡◌, ◌+◌, ◌*◌, ◌^◌, ◌<◌, ◌≤◌, IfOk};
-ghost use Rattle.elf_source.specs.Prelude.{KeepsSource};
+ghost use Rattle.std.specs.Prelude.{◌≡◌, ◌+◌, ◌*◌, ◌^◌, ◌<◌, ◌≤◌, ◌&&◌, nat_lt, ℕ, List, Option, IfErr, IfOk, option_map};
+ghost use Rattle.std.specs.List.{list_any};
+ghost use Rattle.elf_model.specs.Image.{has_table, read_addresses};
+ghost use Rattle.elf_model.specs.ImageChecks.{LoadedTable};
+ghost use Rattle.elf_model.specs.LoaderScope.{tagged_row};
+ghost use Rattle.elf_model.specs.Numbers.{DT_SYMTAB};
+ghost use Rattle.elf_model.specs.Prelude.{has_bits};
+ghost use Rattle.elf_model.specs.Traits.{has_text_relocations};
+ghost use Rattle.elf_table.specs.Prelude.{CallDid, CallReads, HoldsProgramHeaders};
+ghost use Rattle.elf_table.specs.Prelude.{IsOfCheck, fault_of_result};
+ghost use Rattle.elf_hash.specs.Segments.{entries_asked};
+ghost use Rattle.elf_hash.specs.Entries.{dynamic_entry_at};
+ghost use Rattle.elf_image.specs.Located.{AreImageRows, AreImageTables, AreRowsAt, IsMapped};
+ghost use Rattle.elf_image.specs.Located.{ChecksThen, entry_checks, loaded_addresses};
+ghost use Rattle.elf_image.specs.Located.{located_checks_of, symbol_addresses};
+ghost use Rattle.elf_image.specs.Relocated.{ReadsAfter, ReadsRelocations, SaysRelocations};
+ghost use Rattle.elf_image.specs.Relocated.{entries_header};
+ghost use Rattle.elf_image.specs.Relocated.{is_among, is_holder};
 ghost use Rattle.elf_image.specs.Within.{RelocationsWithin};
 
 use crate::dynamic_rows::{ImageRows, image_rows, no_rows};
 use crate::image_items::{CopyBytes, ImageItems};
 use crate::place::{Place, holder};
 use crate::ranges::{EntryRanges, entry_ranges};
-use crate::tables::{ImageTables, MappedTable, image_tables};
+use crate::tables::{ImageTables, MappedTable, image_tables, value_or};
 use elf_hash::DynEntry;
 use elf_record::Cause;
 use elf_record::numbers::PT_DYNAMIC;
@@ -47,7 +63,17 @@ pub(crate) struct Relocations {
     /// The address and the size of the dynamic entries.
     pub(crate) dynamic: (u64, u64),
     /// The segments that hold the first byte of a table.
-    pub(crate) table_segments: [Option<u16>; 4],
+    pub(crate) table_segments: TableSegments,
+}
+
+/// The segments that hold the first byte of each table that says how a file is relocated, and of
+/// the symbols.
+#[derive(Clone, Copy)]
+pub(crate) struct TableSegments {
+    pub(crate) compact: Option<u16>,
+    pub(crate) addends: Option<u16>,
+    pub(crate) calls: Option<u16>,
+    pub(crate) symbols: Option<u16>,
 }
 
 /// The bytes that a relocation stores.
@@ -83,20 +109,34 @@ pub(crate) enum EntryResult<'a> {
     Lacks(Cause),
 }
 
-impl Relocations {
-    /// Returns `true` if a segment holds the first byte of a table that says how the file is
-    /// relocated.
-    pub(crate) fn has_table(&self, segment: u16) -> bool {
-        for holder in &self.table_segments {
-            if *holder == Some(segment) {
-                return true;
-            }
-        }
-        false
+impl TableSegments {
+    /// Returns `true` if a segment is one of them.
+    pub(crate) fn contains(&self, segment: u16) -> bool
+        ensures { result ≡ is_among self.now segment }
+    {
+        is_holder(self.compact, segment)
+            || is_holder(self.addends, segment)
+            || is_holder(self.calls, segment)
+            || is_holder(self.symbols, segment)
     }
+}
 
+/// Returns `true` if a segment is the one that holds something, if one does.
+fn is_holder(holder: Option<u16>, segment: u16) -> bool
+    ensures { result ≡ is_holder holder segment }
+{
+    match holder {
+        Some(holder) => holder == segment,
+        None => false,
+    }
+}
+
+impl Relocations {
     /// Returns `true` if `width` bytes at an address meet the dynamic entries.
-    pub(crate) fn meets_dynamic(&self, address: u64, width: u64) -> bool {
+    pub(crate) fn meets_dynamic(&self, address: u64, width: u64) -> bool
+        ensures { result ≡ (nat_lt address (self.now.dynamic.0 + self.now.dynamic.1)
+            && nat_lt self.now.dynamic.0 (address + width)) }
+    {
         let (dynamic, size) = self.dynamic;
         u128::from(address) < u128::from(dynamic) + u128::from(size)
             && u128::from(dynamic) < u128::from(address) + u128::from(width)
@@ -115,20 +155,38 @@ pub(crate) fn told_relocations<S: Source>(
     view: &ExecutionView<'_>,
 ) -> Result<Relocations, Fault>
     requires size { view.now.loaded.size ≡ src.old.seen.size }
-    ensures keeps { KeepsSource src.old.seen src.new.seen }
+    ensures did { CallDid src.old src.new (fault_of_result result) src.old.seen.size (λ file.
+        HoldsProgramHeaders file view.now.loaded view.now.store.now →
+        CallReads src.old src.new (fault_of_result result) (entries_asked file)
+        × ReadsRelocations file result) }
     ensures within { IfOk result (RelocationsWithin src.old.seen.size) }
 {
     let found = dynamic_entries(src, view)?;
-    let rows = found.0;
-    let tables = image_tables(view, &rows)?;
-    let ranges = entry_ranges(&tables, &rows)?;
+    told_by(view, &found.0, found.1)
+}
+
+/// Returns what dynamic entries, which are at an address, say of a file's relocations. No bytes are
+/// read.
+///
+/// # Errors
+/// Returns the first check that fails: those of [`image_tables`] and of [`entry_ranges`].
+fn told_by(view: &ExecutionView<'_>, rows: &ImageRows, address: u64) -> Result<Relocations, Fault>
+    requires { rows.now.count < 2 ^ 60 }
+    ensures within { IfOk result (RelocationsWithin view.now.loaded.size) }
+    ensures refusal { IfErr result IsOfCheck }
+    ensures told { (file : List ℕ) → HoldsProgramHeaders file view.now.loaded view.now.store.now →
+        AreRowsAt file (rows.now, address) → ChecksThen (located_checks_of file)
+        (SaysRelocations file (entries_header file)) result }
+{
+    let tables = image_tables(view, rows)?;
+    let ranges = entry_ranges(&tables, rows)?;
     let table_segments = table_segments(view, &tables, rows.symbols);
     Ok(Relocations {
-        writes_text: has_text_relocations(&rows),
+        writes_text: has_text_relocations(rows),
         compact: tables.compact.rows,
         ranges,
         symbols: tables.symbols,
-        dynamic: (found.1, DYNAMIC_BYTES * rows.count),
+        dynamic: (address, DYNAMIC_BYTES * rows.count),
         table_segments,
     })
 }
@@ -140,7 +198,10 @@ fn dynamic_entries<S: Source>(
     view: &ExecutionView<'_>,
 ) -> Result<(ImageRows, u64), Fault>
     requires size { view.now.loaded.size ≡ src.old.seen.size }
-    ensures keeps { KeepsSource src.old.seen src.new.seen }
+    ensures did { CallDid src.old src.new (fault_of_result result) src.old.seen.size (λ file.
+        HoldsProgramHeaders file view.now.loaded view.now.store.now →
+        CallReads src.old src.new (fault_of_result result) (entries_asked file)
+        × ReadsAfter (entry_checks file) (AreRowsAt file) result) }
     ensures few { IfOk result (λ found. found.0.count < 2 ^ 60) }
 {
     let Some(segment) = view.first_segment(PT_DYNAMIC) else {
@@ -153,12 +214,18 @@ fn dynamic_entries<S: Source>(
 
 /// Returns `true` if the file has text relocations: by DT_TEXTREL, or by the flag of DT_FLAGS (gABI
 /// 5, Dynamic Section).
-fn has_text_relocations(rows: &ImageRows) -> bool {
-    let flags = match rows.flags {
-        Some(row) => row.value,
-        None => 0,
-    };
-    rows.text.is_some() || flags & DF_TEXTREL == DF_TEXTREL
+fn has_text_relocations(rows: &ImageRows) -> bool
+    ensures { (file : List ℕ) → AreImageRows file (entries_header file) rows.now →
+        result ≡ has_text_relocations file }
+{
+    rows.text.is_some() || has_text_flag(value_or(rows.flags, 0))
+}
+
+/// Returns `true` if DT_FLAGS has the flag of text relocations.
+fn has_text_flag(flags: u64) -> bool
+    ensures { result ≡ has_bits flags 4 }
+{
+    flags & DF_TEXTREL == DF_TEXTREL
 }
 
 /// Returns the segments that hold the first byte of a table with rows, or of the symbols.
@@ -166,21 +233,39 @@ fn table_segments(
     view: &ExecutionView<'_>,
     tables: &ImageTables,
     symbols: Option<DynEntry>,
-) -> [Option<u16>; 4] {
-    let symbols = match symbols {
-        Some(row) => holder(view, row.value, 1),
-        None => None,
-    };
-    [
-        table_segment(view, &tables.compact),
-        table_segment(view, &tables.addends),
-        table_segment(view, &tables.calls),
-        symbols,
-    ]
+) -> TableSegments
+    ensures { (file : List ℕ) (at segment : ℕ) →
+        HoldsProgramHeaders file view.now.loaded view.now.store.now →
+        AreImageTables file at tables.now →
+        symbols ≡ option_map (dynamic_entry_at file) (tagged_row file at DT_SYMTAB) →
+        is_among result segment ≡ list_any (has_table file segment) (read_addresses file at) }
+{
+    TableSegments {
+        compact: table_segment(view, &tables.compact),
+        addends: table_segment(view, &tables.addends),
+        calls: table_segment(view, &tables.calls),
+        symbols: row_segment(view, symbols),
+    }
+}
+
+/// Returns the segment that holds the byte at the address of a dynamic entry, if there is one.
+fn row_segment(view: &ExecutionView<'_>, row: Option<DynEntry>) -> Option<u16>
+    ensures { (file : List ℕ) (at segment : ℕ) →
+        HoldsProgramHeaders file view.now.loaded view.now.store.now →
+        row ≡ option_map (dynamic_entry_at file) (tagged_row file at DT_SYMTAB) →
+        is_holder result segment ≡ list_any (has_table file segment) (symbol_addresses file at) }
+{
+    let row = row?;
+    holder(view, row.value, 1)
 }
 
 /// Returns the segment that holds the first byte of a table, if that has rows.
-fn table_segment(view: &ExecutionView<'_>, table: &MappedTable) -> Option<u16> {
+fn table_segment(view: &ExecutionView<'_>, table: &MappedTable) -> Option<u16>
+    ensures { (file : List ℕ) (loaded : Option LoadedTable) (width segment : ℕ) →
+        HoldsProgramHeaders file view.now.loaded view.now.store.now →
+        IsMapped loaded width table.now → is_holder result segment
+        ≡ list_any (has_table file segment) (loaded_addresses loaded) }
+{
     if table.rows.is_empty() {
         return None;
     }

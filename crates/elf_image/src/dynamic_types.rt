@@ -1,7 +1,7 @@
 //! The relocation types that a loader applies (x86-64 psABI, Relocation Types).
 ghost use Rattle.std.specs.Prelude.{◌≡◌, ℕ, List};
 ghost use Rattle.elf_model.specs.ImageValues.{changed_size, dynamic_type, is_thread_local, uses_no_symbol};
-ghost use Rattle.elf_record.specs.Sym.{IsSym};
+ghost use Rattle.elf_image.specs.Values.{IsUsed};
 
 use elf_model::DynamicType;
 use elf_record::Sym;
@@ -58,7 +58,7 @@ pub(crate) fn is_thread_local(found: DynamicType) -> bool
 /// Returns how many bytes an entry of a type may change, by its symbol.
 #[tactic(auto, unfolding(elf_model::specs::ImageValues::changed_size))]
 pub(crate) fn changed_size(found: DynamicType, symbol: &Sym) -> u64
-    ensures { (file : List ℕ) (at : ℕ) → IsSym file at symbol.now →
+    ensures { (file : List ℕ) (at index : ℕ) → IsUsed found file at index symbol.now →
         result ≡ changed_size found file at }
 {
     match found {

@@ -1,5 +1,15 @@
 //! What a relocation entry changes.
-ghost use Rattle.elf_source.specs.Prelude.{KeepsSource};
+ghost use Rattle.std.specs.Prelude.{◌≡◌, ◌<◌, ◌^◌, ℕ, List, Some, Err, IfErr, IfSome};
+ghost use Rattle.elf_model.specs.Image.{ImageSource, change_by, change_of_type, entry_change};
+ghost use Rattle.elf_model.specs.Image.{is_lack};
+ghost use Rattle.elf_model.specs.ImageValues.{dynamic_symbol_checks, entry_symbol};
+ghost use Rattle.elf_model.specs.Records.{r_addend, r_sym};
+ghost use Rattle.elf_record.specs.Rela.{IsRela};
+ghost use Rattle.elf_table.specs.Faults.{IsOfCheck};
+ghost use Rattle.elf_table.specs.Ledger.{CallDid, CallReads, fault_of_result};
+ghost use Rattle.elf_image.specs.Relocated.{AreEntrySymbols, ChangesAs, HasEntries, IsHeldRange};
+ghost use Rattle.elf_image.specs.Relocated.{IsImageOf, ReadsAfter, UsesSymbol};
+ghost use Rattle.elf_image.specs.Values.{IsUsed, IsValueCause};
 ghost use Rattle.elf_image.specs.Within.{ImageWithin};
 
 use crate::changes::{EntryResult, ImageFile, PlacedBytes, RelocatedBytes};
@@ -28,8 +38,14 @@ pub(crate) fn entry_result<'a, S: Source>(
     entry: &Rela,
     at: u64,
 ) -> Result<EntryResult<'a>, Fault>
-    requires { ImageWithin src.old.seen.size image.now }
-    ensures { KeepsSource src.old.seen src.new.seen }
+    requires within { ImageWithin src.old.seen.size image.now }
+    requires last { IfSome last.old (IsHeldRange image.now) }
+    ensures costs { CallReads src.old src.new (fault_of_result result) 24 }
+    ensures last { IfSome last.new (IsHeldRange image.now) }
+    ensures change { (source : ImageSource) → src.old.seen.file ≡ Some source.file →
+        IsImageOf source image.now → HasEntries image.now.told →
+        IsRela source.file at entry.now → r_addend source.file at < 2 ^ 64 →
+        ChangesAs image.now.leaves at result (entry_change source at) }
 {
     let kind = entry.kind();
     if kind == R_X86_64_NONE {
@@ -39,9 +55,29 @@ pub(crate) fn entry_result<'a, S: Source>(
         return refused(at, Cause::Unsupported);
     };
     let symbol = entry_symbol(src, image, found, entry.symbol(), at)?;
-    let width = changed_size(found, &symbol);
+    stored_result(image, last, entry, at, found, &symbol)
+}
+
+/// Returns what an entry of a type changes, whose symbol is read.
+fn stored_result<'a>(
+    image: &ImageFile<'_, 'a>,
+    last: &mut Option<HeldRange>,
+    entry: &Rela,
+    at: u64,
+    found: DynamicType,
+    symbol: &Sym,
+) -> Result<EntryResult<'a>, Fault>
+    requires { IfSome last.old (IsHeldRange image.now) }
+    ensures last { IfSome last.new (IsHeldRange image.now) }
+    ensures refusal { IfErr result IsOfCheck }
+    ensures change { (source : ImageSource) → IsImageOf source image.now →
+        IsRela source.file at entry.now → r_addend source.file at < 2 ^ 64 →
+        UsesSymbol source at found entry.now symbol.now →
+        ChangesAs image.now.leaves at result (change_of_type source at (Some found)) }
+{
+    let width = changed_size(found, symbol);
     let place = checked_place(image, last, entry.r_offset, width, at)?;
-    match stored_bytes(image, found, entry, &symbol) {
+    match stored_bytes(image, found, entry, symbol) {
         Ok(bytes) => Ok(EntryResult::Stores(PlacedBytes {
             place,
             width,
@@ -60,7 +96,10 @@ fn entry_symbol<S: Source>(
     at: u64,
 ) -> Result<Sym, Fault>
     requires { ImageWithin src.old.seen.size image.now }
-    ensures { KeepsSource src.old.seen src.new.seen }
+    ensures { CallDid src.old src.new (fault_of_result result) 24 (λ file. (header : ℕ) →
+        AreEntrySymbols file header image.now.told.symbols → index ≡ r_sym file at →
+        ReadsAfter (dynamic_symbol_checks found file header at)
+        (IsUsed found file (entry_symbol file header at) index) result) }
 {
     if uses_no_symbol(found) {
         return Ok(no_symbol());
@@ -79,7 +118,12 @@ fn without_bytes<'a>(
     image: &ImageFile<'_, 'a>,
     at: u64,
     cause: Cause,
-) -> Result<EntryResult<'a>, Fault> {
+) -> Result<EntryResult<'a>, Fault>
+    requires { IsValueCause cause }
+    ensures refusal { IfErr result IsOfCheck }
+    ensures change { (source : ImageSource) → (size : ℕ) →
+        ChangesAs image.now.leaves at result (change_by source at size (Err cause)) }
+{
     if image.leaves && is_lack(cause) {
         return Ok(EntryResult::Lacks(cause));
     }
@@ -87,6 +131,8 @@ fn without_bytes<'a>(
 }
 
 /// Returns `true` if a cause says that an item is missing.
-fn is_lack(cause: Cause) -> bool {
+fn is_lack(cause: Cause) -> bool
+    ensures { result ≡ is_lack cause }
+{
     matches!(cause, Cause::Undefined | Cause::Unplaced)
 }

@@ -1,14 +1,20 @@
 //! The place of a relocation: the LOAD segment that holds it in memory.
-ghost use Rattle.std.specs.Prelude.{◌≡◌, ◌<◌, ◌≤◌, ℕ, List, IfSome, true};
-ghost use Rattle.elf_model.specs.Image.{holder_of, holds_in_memory};
+ghost use Rattle.std.specs.Prelude.{◌≡◌, ◌+◌, ◌<◌, ◌≤◌, ℕ, List, IfErr, IfSome, option_map, true};
+ghost use Rattle.elf_model.specs.Checks.{first_refusal};
+ghost use Rattle.elf_model.specs.Image.{ImageSource, holder_of, holds_in_memory};
 ghost use Rattle.elf_model.specs.Prelude.{has_bits};
 ghost use Rattle.elf_model.specs.TraitNumbers.{PF_W};
 ghost use Rattle.elf_model.specs.Records.{p_flags, p_vaddr};
 ghost use Rattle.elf_record.specs.Phdr.{IsPhdr};
+ghost use Rattle.elf_table.specs.Faults.{IsOfCheck};
 ghost use Rattle.elf_table.specs.Load.{HoldsProgramHeaders};
 ghost use Rattle.elf_table.specs.Store.{segment_bytes};
+ghost use Rattle.elf_image.specs.Headers.{refusal_for};
+ghost use Rattle.elf_image.specs.Relocated.{FindsPlace, IsHeldRange, IsImageOf, IsLoadSegment};
+ghost use Rattle.elf_image.specs.Relocated.{held_range_checks};
+ghost use Rattle.elf_image.specs.Values.{IsValueCause};
 
-use crate::changes::ImageFile;
+use crate::changes::{ImageFile, Relocations};
 use elf_record::numbers::PT_LOAD;
 use elf_record::{Cause, Phdr, SegmentFlags};
 use elf_table::{ExecutionView, Fault, refused};
@@ -38,6 +44,7 @@ impl HeldRange {
     /// Returns `true` if the segment holds `width` bytes at an address in memory.
     fn holds(&self, address: u64, width: u64) -> bool
         ensures above { result ≡ true → self.now.first ≤ address }
+        ensures within { result ≡ true → address + width ≤ self.now.end }
     {
         self.first <= address && u128::from(address) + u128::from(width) <= self.end
     }
@@ -56,21 +63,40 @@ pub(crate) fn checked_place(
     address: u64,
     width: u64,
     at: u64,
-) -> Result<Place, Fault> {
+) -> Result<Place, Fault>
+    requires { IfSome last.old (IsHeldRange image.now) }
+    ensures last { IfSome last.new (IsHeldRange image.now) }
+    ensures refusal { IfErr result IsOfCheck }
+    ensures found { (source : ImageSource) → IsImageOf source image.now →
+        FindsPlace source at address width result }
+{
     let Some(range) = held_range(image, last, address, width) else {
         return refused(at, Cause::PlaceOutside);
     };
     *last = Some(range);
-    if !range.permits {
-        return refused(at, Cause::PlaceOutside);
-    }
-    if range.has_table || image.told.meets_dynamic(address, width) {
-        return refused(at, Cause::TableWritten);
+    if let Some(cause) = range_fault(&image.told, &range, address, width) {
+        return refused(at, cause);
     }
     Ok(Place {
         segment: range.segment,
         offset: address - range.first,
     })
+}
+
+/// Returns why `width` bytes at an address, which are in a segment, may not be relocated, if they
+/// may not.
+fn range_fault(told: &Relocations, range: &HeldRange, address: u64, width: u64) -> Option<Cause>
+    ensures value { (at : ℕ) → refusal_for at result
+        ≡ first_refusal (held_range_checks told.now range.now at address width) }
+    ensures known { IfSome result IsValueCause }
+{
+    if !range.permits {
+        return Some(Cause::PlaceOutside);
+    }
+    if range.has_table || told.meets_dynamic(address, width) {
+        return Some(Cause::TableWritten);
+    }
+    None
 }
 
 /// Returns the LOAD segment that holds `width` bytes at an address in memory, if there is one: no
@@ -81,7 +107,11 @@ fn held_range(
     address: u64,
     width: u64,
 ) -> Option<HeldRange>
+    requires { IfSome last.now (IsHeldRange image.now) }
     ensures above { IfSome result (λ range. range.first ≤ address) }
+    ensures held { IfSome result (IsHeldRange image.now) }
+    ensures found { (source : ImageSource) → IsImageOf source image.now →
+        holder_of source.file address width ≡ option_map (λ range. range.segment) result }
 {
     if let Some(range) = last {
         if width > 0 && range.holds(address, width) {
@@ -93,8 +123,11 @@ fn held_range(
 
 /// Returns the LOAD segment of a program header.
 fn range_of(image: &ImageFile<'_, '_>, segment: u16) -> HeldRange
-    requires { segment < image.now.view.store.now.segments }
-    ensures { result.first ≡ p_vaddr (segment_bytes image.now.view.store.now segment) 0 }
+    requires below { segment < image.now.view.store.now.segments }
+    requires load { IsLoadSegment image.now segment }
+    ensures segment { result.segment ≡ segment }
+    ensures first { result.first ≡ p_vaddr (segment_bytes image.now.view.store.now segment) 0 }
+    ensures held { IsHeldRange image.now result }
 {
     let header = image.view.segment(segment);
     HeldRange {
@@ -102,7 +135,7 @@ fn range_of(image: &ImageFile<'_, '_>, segment: u16) -> HeldRange
         first: header.p_vaddr,
         end: u128::from(header.p_vaddr) + u128::from(header.p_memsz),
         permits: image.told.writes_text || is_writable(&header),
-        has_table: image.told.has_table(segment),
+        has_table: image.told.table_segments.contains(segment),
     }
 }
 

@@ -1,5 +1,5 @@
 //! The bytes that a relocation entry stores.
-ghost use Rattle.std.specs.Prelude.{◌≡◌, ◌<◌, ◌/◌, ◌^◌, ℕ, List};
+ghost use Rattle.std.specs.Prelude.{◌≡◌, ◌<◌, ◌/◌, ◌^◌, ℕ, List, IfErr, IfOk};
 ghost use Rattle.elf_model.specs.Bytes.{little};
 ghost use Rattle.elf_model.specs.ImageItems.{bytes_for, is_looked_up};
 ghost use Rattle.elf_model.specs.ImageValues.{copied_bytes, descriptor_bytes, low_four_bytes, placed_value};
@@ -8,7 +8,7 @@ ghost use Rattle.elf_model.specs.Placing.{address_in};
 ghost use Rattle.elf_model.specs.Records.{r_addend, st_size, twos_complement};
 ghost use Rattle.elf_record.specs.Rela.{IsRela};
 ghost use Rattle.elf_record.specs.Sym.{IsSym};
-ghost use Rattle.elf_image.specs.Values.{IsBased, IsUsed, bytes_or_cause, known_items, stored_as};
+ghost use Rattle.elf_image.specs.Values.{IsBased, IsGiven, IsUsed, IsValueCause, bytes_or_cause, known_items, stored_as};
 
 use crate::changes::{ImageFile, RelocatedBytes};
 use crate::image_items::ItemKind;
@@ -30,10 +30,12 @@ pub(crate) fn stored_bytes<'a>(
     entry: &Rela,
     symbol: &Sym,
 ) -> Result<RelocatedBytes<'a>, Cause>
-    ensures { (file : List ℕ) (rela at : ℕ) → IsRela file rela entry.now →
+    ensures value { (file : List ℕ) (rela at : ℕ) → IsRela file rela entry.now →
         r_addend file rela < 2 ^ 64 →
         IsUsed found file at (entry.now.r_info / 2 ^ 32) symbol.now → IsBased image.now →
         bytes_or_cause result ≡ stored_bytes found file (known_items image.now) rela at }
+    ensures known { IfErr result IsValueCause }
+    ensures given { IfOk result IsGiven }
 {
     let index = entry.symbol();
     let addend = entry.r_addend.cast_unsigned();
@@ -77,7 +79,9 @@ pub(crate) fn stored_bytes<'a>(
 
 /// Returns the eight bytes of a value and an addend modulo 2^64, if there is a value.
 fn word_of<'a>(value: Result<u64, Cause>, addend: u64) -> Result<RelocatedBytes<'a>, Cause>
-    ensures { bytes_or_cause result ≡ word_of value addend }
+    ensures value { bytes_or_cause result ≡ word_of value addend }
+    ensures known { IfErr value IsValueCause → IfErr result IsValueCause }
+    ensures given { IfOk result IsGiven }
 {
     match value {
         Ok(value) => Ok(word(value.wrapping_add(addend))),
@@ -90,7 +94,9 @@ fn word_if_bound<'a>(
     value: Result<Option<u64>, Cause>,
     addend: u64,
 ) -> Result<RelocatedBytes<'a>, Cause>
-    ensures { bytes_or_cause result ≡ word_if_bound value addend }
+    ensures value { bytes_or_cause result ≡ word_if_bound value addend }
+    ensures known { IfErr value IsValueCause → IfErr result IsValueCause }
+    ensures given { IfOk result IsGiven }
 {
     match value {
         Ok(Some(value)) => Ok(word(value.wrapping_add(addend))),
@@ -102,7 +108,8 @@ fn word_if_bound<'a>(
 /// Returns the bytes of a word.
 #[tactic(auto, unfolding(elf_model::specs::Bytes::little))]
 fn word<'a>(number: u64) -> RelocatedBytes<'a>
-    ensures { stored_as result ≡ little 8 number }
+    ensures value { stored_as result ≡ little 8 number }
+    ensures given { IsGiven result }
 {
     RelocatedBytes::Value(Patch::Word64(number.to_le_bytes()))
 }
@@ -114,8 +121,10 @@ fn low_four_bytes<'a>(
     addend: i64,
     place: u64,
 ) -> Result<RelocatedBytes<'a>, Cause>
-    ensures { (bits : ℕ) → addend ≡ twos_complement bits →
+    ensures value { (bits : ℕ) → addend ≡ twos_complement bits →
         bytes_or_cause result ≡ low_four_bytes number address bits place }
+    ensures known { IfErr address IsValueCause → IfErr result IsValueCause }
+    ensures given { IfOk result IsGiven }
 {
     let address = address?;
     match value(number, address, address, addend, place) {
@@ -128,7 +137,8 @@ fn low_four_bytes<'a>(
 /// Returns the answer of the resolver at an address.
 #[tactic(auto, unfolding(crate::specs::Items::said_by))]
 fn resolved_value(image: &ImageFile<'_, '_>, address: u64) -> Result<u64, Cause>
-    ensures { result ≡ placed_value (address_in (known_items image.now).resolved address) }
+    ensures value { result ≡ placed_value (address_in (known_items image.now).resolved address) }
+    ensures known { IfErr result IsValueCause }
 {
     match image.items.number(ItemKind::Resolver, address) {
         Some(answer) => Ok(answer),
@@ -143,10 +153,12 @@ fn copied_bytes<'a>(
     index: u32,
     symbol: &Sym,
 ) -> Result<RelocatedBytes<'a>, Cause>
-    ensures { (file : List ℕ) (at : ℕ) → IsSym file at symbol.now →
+    ensures value { (file : List ℕ) (at : ℕ) → IsSym file at symbol.now →
         bytes_or_cause result
         ≡ copied_bytes (is_looked_up file at) (bytes_for (known_items image.now).copies index)
         (st_size file at) }
+    ensures known { IfErr result IsValueCause }
+    ensures given { IfOk result IsGiven }
 {
     if !is_looked_up(symbol) {
         return Err(Cause::Undefined);
@@ -166,7 +178,9 @@ fn descriptor_bytes<'a>(
     offset: Result<Option<u64>, Cause>,
     addend: u64,
 ) -> Result<RelocatedBytes<'a>, Cause>
-    ensures { bytes_or_cause result ≡ descriptor_bytes function offset addend }
+    ensures value { bytes_or_cause result ≡ descriptor_bytes function offset addend }
+    ensures known { IfErr offset IsValueCause → IfErr result IsValueCause }
+    ensures given { IfOk result IsGiven }
 {
     let Some(offset) = offset? else {
         return Err(Cause::Undefined);

@@ -1,8 +1,11 @@
 //! The dynamic symbol that an entry refers to.
-ghost use Rattle.std.specs.Prelude.{◌≡◌, ℕ, List, IfSome};
+ghost use Rattle.std.specs.Prelude.{◌≡◌, ◌+◌, ◌*◌, ℕ, List, IfSome};
 ghost use Rattle.elf_model.specs.ImageItems.{is_looked_up};
+ghost use Rattle.elf_model.specs.LoaderScope.{segment_symbols};
+ghost use Rattle.elf_model.specs.Tables.{SYMBOL_SIZE};
 ghost use Rattle.elf_record.specs.Sym.{IsSym};
-ghost use Rattle.elf_source.specs.Source.{ReadsUpTo};
+ghost use Rattle.elf_table.specs.Ledger.{CallDid, fault_of_result};
+ghost use Rattle.elf_image.specs.Relocated.{AreEntrySymbols, ReadsAfter, located_symbol_checks};
 ghost use Rattle.elf_image.specs.Within.{IsTableWithin};
 
 use elf_record::numbers::STB_LOCAL;
@@ -40,7 +43,10 @@ pub(crate) fn read_symbol<S: Source>(
     at: u64,
 ) -> Result<Sym, Fault>
     requires { IfSome symbols (IsTableWithin 24 src.old.seen.size) }
-    ensures { ReadsUpTo src.old src.new 24 }
+    ensures { CallDid src.old src.new (fault_of_result result) 24 (λ file. (header : ℕ) →
+        AreEntrySymbols file header symbols →
+        ReadsAfter (located_symbol_checks file header at index)
+        (IsSym file ((segment_symbols file header).0 + SYMBOL_SIZE * index)) result) }
 {
     let Some(table) = symbols else {
         return refused(at, Cause::BadLink);

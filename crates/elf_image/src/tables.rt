@@ -1,9 +1,27 @@
 //! The tables that say how a file is relocated, with their checks.
-ghost use Rattle.std.specs.Prelude.{◌≡◌, ◌<◌, ◌≤◌, IfOk, IfSome};
+ghost use Rattle.std.specs.Prelude.{◌≡◌, ◌<◌, ◌≤◌, ℕ, List, IfErr, IfOk, IfSome};
+ghost use Rattle.std.specs.Prelude.{◌==◌, not, option_map, unwrap_or};
+ghost use Rattle.elf_model.specs.Checks.{first_refusal};
+ghost use Rattle.elf_model.specs.DynamicRelocations.{form_size, table_mapped};
+ghost use Rattle.elf_model.specs.ImageChecks.{addend_checks, image_symbol_checks, linkage_table};
+ghost use Rattle.elf_model.specs.ImageChecks.{rela_table};
+ghost use Rattle.elf_model.specs.LoaderScope.{checks_of_row, rest_checks, tagged_row};
+ghost use Rattle.elf_model.specs.Numbers.{DT_SYMTAB};
+ghost use Rattle.elf_model.specs.declared.causes.Cause.TheVariants.{Unsupported};
+ghost use Rattle.elf_model.specs.declared.relocation_tables.RelocationForm.{RelocationForm};
+ghost use Rattle.elf_model.specs.declared.relocation_tables.RelocationTable.{RelocationTable};
+ghost use Rattle.elf_model.specs.declared.relocation_tables.RelocationTable.TheVariants.{Jmprel, Rel};
+ghost use Rattle.elf_table.specs.Prelude.{HoldsProgramHeaders, IsOfCheck};
+ghost use Rattle.elf_hash.specs.Entries.{dynamic_entry_at};
+ghost use Rattle.elf_hash.specs.RelocationTables.{AreTableEntries, IsEntryOf};
+ghost use Rattle.elf_image.specs.Located.{AreImageRows, AreImageTables, ChecksThen, HasOneForm};
+ghost use Rattle.elf_image.specs.Located.{HasTables, IsMapped, MapsLocated, MapsTable};
+ghost use Rattle.elf_image.specs.Located.{image_table_checks, kind_row_checks, plain_checks};
+ghost use Rattle.elf_image.specs.Relocated.{AreEntrySymbols};
 ghost use Rattle.elf_image.specs.Within.{IsTableWithin, TablesWithin};
 
-use crate::dynamic_rows::{ImageRows, TableRows};
-use elf_hash::DynEntry;
+use crate::dynamic_rows::ImageRows;
+use elf_hash::{DynEntry, TableEntries};
 use elf_record::Cause;
 use elf_record::sizes::{RELOCATION_BYTES, RELR_BYTES, SYMBOL_BYTES};
 use elf_table::{ExecutionView, Fault, Table, refused};
@@ -38,6 +56,11 @@ pub(crate) struct ImageTables {
 /// DT_PLTREL for such calls; those of each table; those of [`ExecutionView::rest`] for the symbols.
 pub(crate) fn image_tables(view: &ExecutionView<'_>, rows: &ImageRows) -> Result<ImageTables, Fault>
     ensures within { IfOk result (TablesWithin view.now.loaded.size) }
+    ensures refusal { IfErr result IsOfCheck }
+    ensures tables { (file : List ℕ) (at : ℕ) →
+        HoldsProgramHeaders file view.now.loaded view.now.store.now →
+        AreImageRows file at rows.now →
+        ChecksThen (image_table_checks file at) (AreImageTables file at) result }
 {
     if let Some(at) = unsupported_row(rows) {
         return refused(at, Cause::Unsupported);
@@ -45,11 +68,7 @@ pub(crate) fn image_tables(view: &ExecutionView<'_>, rows: &ImageRows) -> Result
     let compact = checked_mapped_table(view, &rows.compact, RELR_BYTES, RELR_BYTES)?;
     let addends = checked_mapped_table(view, &rows.addends, RELOCATION_BYTES, RELOCATION_BYTES)?;
     let calls = checked_mapped_table(view, &rows.calls, RELOCATION_BYTES, WITH_ADDENDS)?;
-    let symbols = if addends.rows.is_empty() && calls.rows.is_empty() {
-        None
-    } else {
-        checked_symbols(view, rows.symbols)?
-    };
+    let symbols = entry_symbols(view, &addends, &calls, rows.symbols)?;
     Ok(ImageTables {
         compact,
         addends,
@@ -59,29 +78,58 @@ pub(crate) fn image_tables(view: &ExecutionView<'_>, rows: &ImageRows) -> Result
 }
 
 /// Returns the offset of the dynamic entry that locates entries without addends, if there are some.
-fn unsupported_row(rows: &ImageRows) -> Option<u64> {
-    if let Some(row) = rows.plain.address {
-        if value_or(rows.plain.size, 1) != 0 {
-            return Some(row.at);
-        }
+fn unsupported_row(rows: &ImageRows) -> Option<u64>
+    ensures { (file : List ℕ) (at : ℕ) → AreImageRows file at rows.now →
+        first_refusal (addend_checks file at) ≡ option_map (λ row. record {
+          at = row;
+          cause = Unsupported;
+        }) result }
+{
+    if let Some(at) = plain_row(&rows.plain) {
+        return Some(at);
     }
-    if rows.calls.address.is_some() && value_or(rows.calls.entry, WITH_ADDENDS) != WITH_ADDENDS {
-        return offset_of(rows.calls.entry);
+    other_kind_row(&rows.calls)
+}
+
+/// Returns the offset of DT_REL, if there are entries without addends.
+fn plain_row(rows: &TableEntries) -> Option<u64>
+    ensures { (file : List ℕ) (at : ℕ) → AreTableEntries file at Rel rows.now →
+        first_refusal (plain_checks file at) ≡ option_map (λ row. record {
+          at = row;
+          cause = Unsupported;
+        }) result }
+{
+    let address = rows.address?;
+    if value_or(rows.size, 1) == 0 {
+        return None;
     }
-    None
+    Some(address.at)
+}
+
+/// Returns the offset of DT_PLTREL, if the calls are entries without addends.
+fn other_kind_row(rows: &TableEntries) -> Option<u64>
+    ensures { (file : List ℕ) (at : ℕ) → AreTableEntries file at Jmprel rows.now →
+        first_refusal (kind_row_checks file at) ≡ option_map (λ row. record {
+          at = row;
+          cause = Unsupported;
+        }) result }
+{
+    let _ = rows.address?;
+    let kind = rows.row?;
+    if kind.value == WITH_ADDENDS {
+        return None;
+    }
+    Some(kind.at)
 }
 
 /// Returns the value of an entry, or another one without it.
-fn value_or(row: Option<DynEntry>, value: u64) -> u64 {
+pub(crate) fn value_or(row: Option<DynEntry>, value: u64) -> u64
+    ensures { result ≡ unwrap_or (option_map (λ row. row.value) row) value }
+{
     match row {
         Some(row) => row.value,
         None => value,
     }
-}
-
-/// Returns the offset of an entry, if there is one.
-fn offset_of(row: Option<DynEntry>) -> Option<u64> {
-    Some(row?.at)
 }
 
 /// Returns a table with rows of `entry` bytes, whose size is `told` in its dynamic entry; no rows
@@ -89,17 +137,21 @@ fn offset_of(row: Option<DynEntry>) -> Option<u64> {
 ///
 /// # Errors
 /// Returns the first check that fails: `Unmapped` at the address's entry without a size; `EntrySize`
-/// there without the size of a row, and at that size if it is another one; `SizeNotWhole` at the
-/// size's entry; those of [`ExecutionView::mapped`].
+/// there without the size of a row, and at that size if it is another one; those of [`mapped_rows`].
 fn checked_mapped_table(
     view: &ExecutionView<'_>,
-    rows: &TableRows,
+    rows: &TableEntries,
     entry: u64,
     told: u64,
 ) -> Result<MappedTable, Fault>
     requires { (0 < entry) × (entry ≤ 4096) }
     ensures within { IfOk result (λ table.
         IsTableWithin entry view.now.loaded.size table.rows) }
+    ensures refusal { IfErr result IsOfCheck }
+    ensures maps { (file : List ℕ) (at : ℕ) (table : RelocationTable) (form : RelocationForm) →
+        HoldsProgramHeaders file view.now.loaded view.now.store.now →
+        AreTableEntries file at table rows.now → form_size form ≡ entry →
+        HasOneForm table form told rows.now → MapsTable file at table entry result }
 {
     let Some(address) = rows.address else {
         return Ok(empty_table(0, entry));
@@ -110,18 +162,45 @@ fn checked_mapped_table(
     if size.value == 0 {
         return Ok(empty_table(address.value, entry));
     }
-    match rows.entry {
-        None => return refused(address.at, Cause::EntrySize),
-        Some(row) if row.value != told => return refused(row.at, Cause::EntrySize),
-        Some(_) => {}
+    let Some(row) = rows.row else {
+        return refused(address.at, Cause::EntrySize);
+    };
+    if row.value != told {
+        return refused(row.at, Cause::EntrySize);
     }
+    mapped_rows(view, &address, &size, entry)
+}
+
+/// Returns the table whose address and size two entries have, with rows of `entry` bytes.
+///
+/// # Errors
+/// Returns the first check that fails: `SizeNotWhole` at the size's entry; those of
+/// [`ExecutionView::mapped`].
+fn mapped_rows(
+    view: &ExecutionView<'_>,
+    address: &DynEntry,
+    size: &DynEntry,
+    entry: u64,
+) -> Result<MappedTable, Fault>
+    requires width { (0 < entry) × (entry ≤ 4096) }
+    requires some { 0 < size.now.value }
+    ensures within { IfOk result (λ table.
+        IsTableWithin entry view.now.loaded.size table.rows) }
+    ensures refusal { IfErr result IsOfCheck }
+    ensures maps { (file : List ℕ) (form : RelocationForm) →
+        HoldsProgramHeaders file view.now.loaded view.now.store.now →
+        IsEntryOf file address.now → IsEntryOf file size.now → form_size form ≡ entry →
+        MapsLocated (table_mapped file address.now.at size.now.at form) address.now.value entry
+        result }
+{
     if size.value % entry != 0 {
         return refused(size.at, Cause::SizeNotWhole);
     }
     let found = view.mapped(address.value, size.value, address.at)?;
+    let count = size.value / entry;
     Ok(MappedTable {
         address: address.value,
-        rows: Table::new(found.at(), size.value / entry, entry),
+        rows: Table::new(found.at(), count, entry),
     })
 }
 
@@ -136,10 +215,54 @@ fn empty_table(address: u64, entry: u64) -> MappedTable
     }
 }
 
+/// Returns the symbols that two tables of entries refer to, by the dynamic entry that has their
+/// address; none without entries.
+///
+/// # Errors
+/// Those of [`checked_symbols`].
+fn entry_symbols(
+    view: &ExecutionView<'_>,
+    addends: &MappedTable,
+    calls: &MappedTable,
+    row: Option<DynEntry>,
+) -> Result<Option<Table>, Fault>
+    ensures within { IfOk result (λ found.
+        IfSome found (IsTableWithin 24 view.now.loaded.size)) }
+    ensures refusal { IfErr result IsOfCheck }
+    ensures symbols { (file : List ℕ) (at : ℕ) →
+        HoldsProgramHeaders file view.now.loaded view.now.store.now →
+        IsMapped (rela_table file at) 24 addends.now →
+        IsMapped (linkage_table file at) 24 calls.now →
+        row ≡ option_map (dynamic_entry_at file) (tagged_row file at DT_SYMTAB) →
+        ChecksThen (image_symbol_checks file at) (λ found. HasTables file at →
+        AreEntrySymbols file at found) result }
+{
+    if !has_rows(addends) && !has_rows(calls) {
+        return Ok(None);
+    }
+    checked_symbols(view, row)
+}
+
+/// Returns `true` if a table has rows.
+fn has_rows(table: &MappedTable) -> bool
+    ensures { result ≡ not (table.now.rows.count == 0) }
+{
+    table.rows.len() != 0
+}
+
 /// Returns the symbols from an address to the end of its segment, if a dynamic entry has it.
+///
+/// # Errors
+/// Those of [`ExecutionView::rest`].
 fn checked_symbols(view: &ExecutionView<'_>, row: Option<DynEntry>) -> Result<Option<Table>, Fault>
     ensures within { IfOk result (λ found.
         IfSome found (IsTableWithin 24 view.now.loaded.size)) }
+    ensures refusal { IfErr result IsOfCheck }
+    ensures symbols { (file : List ℕ) (at : ℕ) →
+        HoldsProgramHeaders file view.now.loaded view.now.store.now →
+        row ≡ option_map (dynamic_entry_at file) (tagged_row file at DT_SYMTAB) →
+        ChecksThen (checks_of_row (tagged_row file at DT_SYMTAB) (rest_checks file))
+        (AreEntrySymbols file at) result }
 {
     let Some(row) = row else {
         return Ok(None);

@@ -1,12 +1,12 @@
 //! The values of symbols in an image.
-ghost use Rattle.std.specs.Prelude.{◌≡◌, ℕ, List};
+ghost use Rattle.std.specs.Prelude.{◌≡◌, ℕ, List, IfErr};
 ghost use Rattle.elf_model.specs.ImageItems.{ThreadValue, bound_value, called_value, item_of};
 ghost use Rattle.elf_model.specs.ImageItems.{lacks_item, may_be_unbound, or_unplaced};
 ghost use Rattle.elf_model.specs.ImageItems.{own_thread_symbol, own_thread_value, own_value};
 ghost use Rattle.elf_model.specs.ImageItems.{thread_value};
 ghost use Rattle.elf_record.specs.Sym.{IsSym};
 ghost use Rattle.elf_image.specs.Items.{item_kind_number, of_kind};
-ghost use Rattle.elf_image.specs.Values.{IsBased, IsSymbolOf, ThreadKind, known_items};
+ghost use Rattle.elf_image.specs.Values.{IsBased, IsSymbolOf, IsValueCause, ThreadKind, known_items};
 
 use crate::changes::ImageFile;
 use crate::image_items::ItemKind;
@@ -20,8 +20,9 @@ use elf_record::{Cause, Sym};
 /// Returns `Undefined` if the symbol has no definition, `Unplaced` if its value is not known.
 #[tactic(auto, unfolding(elf_model::specs::ImageItems::bound_value, crate::specs::Items::said_by))]
 pub(crate) fn bound_value(image: &ImageFile<'_, '_>, index: u32, symbol: &Sym) -> Result<u64, Cause>
-    ensures { (file : List ℕ) (at : ℕ) → IsSym file at symbol.now → IsBased image.now →
+    ensures value { (file : List ℕ) (at : ℕ) → IsSym file at symbol.now → IsBased image.now →
         result ≡ bound_value file (known_items image.now) index at }
+    ensures known { IfErr result IsValueCause }
 {
     match item_of(image, ItemKind::Symbol, index, symbol) {
         Some(value) => Ok(value),
@@ -39,8 +40,9 @@ pub(crate) fn called_value(
     index: u32,
     symbol: &Sym,
 ) -> Result<u64, Cause>
-    ensures { (file : List ℕ) (at : ℕ) → IsSym file at symbol.now → IsBased image.now →
+    ensures value { (file : List ℕ) (at : ℕ) → IsSym file at symbol.now → IsBased image.now →
         result ≡ called_value file (known_items image.now) index at }
+    ensures known { IfErr result IsValueCause }
 {
     match item_of(image, ItemKind::Call, index, symbol) {
         Some(value) => Ok(value),
@@ -80,8 +82,9 @@ fn may_be_unbound(symbol: &Sym) -> bool
 /// Returns S of a symbol without an item.
 #[tactic(auto, unfolding(elf_model::specs::ImageItems::own_value, crate::specs::Items::said_by))]
 fn own_value(image: &ImageFile<'_, '_>, symbol: &Sym) -> Result<u64, Cause>
-    ensures { (file : List ℕ) (at : ℕ) → IsSym file at symbol.now → IsBased image.now →
+    ensures value { (file : List ℕ) (at : ℕ) → IsSym file at symbol.now → IsBased image.now →
         result ≡ own_value file (known_items image.now) at }
+    ensures known { IfErr result IsValueCause }
 {
     if lacks_item(image, symbol) {
         return Err(Cause::Undefined);
@@ -113,9 +116,10 @@ pub(crate) fn thread_value(
     index: u32,
     symbol: &Sym,
 ) -> Result<Option<u64>, Cause>
-    ensures { (said : ThreadValue) → ThreadKind kind said → (file : List ℕ) (at : ℕ) →
+    ensures value { (said : ThreadValue) → ThreadKind kind said → (file : List ℕ) (at : ℕ) →
         IsSymbolOf file at index symbol.now →
         result ≡ thread_value said file (known_items image.now) index at }
+    ensures known { IfErr result IsValueCause }
 {
     if index == 0 {
         return own_thread_value(image, kind, 0);
@@ -133,9 +137,10 @@ fn own_thread_symbol(
     kind: ItemKind,
     symbol: &Sym,
 ) -> Result<Option<u64>, Cause>
-    ensures { (said : ThreadValue) → ThreadKind kind said → (file : List ℕ) (at : ℕ) →
+    ensures value { (said : ThreadValue) → ThreadKind kind said → (file : List ℕ) (at : ℕ) →
         IsSym file at symbol.now →
         result ≡ own_thread_symbol said file (known_items image.now) at }
+    ensures known { IfErr result IsValueCause }
 {
     if lacks_item(image, symbol) {
         return Err(Cause::Undefined);
@@ -156,8 +161,9 @@ fn own_thread_value(
     kind: ItemKind,
     value: u64,
 ) -> Result<Option<u64>, Cause>
-    ensures { (said : ThreadValue) → ThreadKind kind said →
+    ensures value { (said : ThreadValue) → ThreadKind kind said →
         result ≡ or_unplaced (own_thread_value said (known_items image.now) value) }
+    ensures known { IfErr result IsValueCause }
 {
     if kind == ItemKind::Value {
         return Ok(Some(value));
