@@ -1,3 +1,6 @@
 pub mod AliveSteps
+pub mod EntryRowSteps
 pub mod ItemSteps
+pub mod MarkSteps
+pub mod RelativeSteps
 pub mod StoredSteps

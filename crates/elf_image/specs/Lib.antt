@@ -3,3 +3,6 @@ pub mod Items
 pub mod Values
 pub mod Within
 pub mod Missing
+pub mod Marks
+pub mod EntryRows
+pub mod RelativeRows

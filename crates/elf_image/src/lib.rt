@@ -9,6 +9,7 @@ mod dynamic_rows;
 mod dynamic_types;
 mod entries;
 mod entry;
+mod entry_rows;
 mod headers;
 mod image_items;
 mod item_list;

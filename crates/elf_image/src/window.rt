@@ -5,6 +5,7 @@ ghost use Rattle.elf_model.specs.ApplyLaws.{clipped};
 ghost use Rattle.elf_source.specs.Prelude.{KeepsSource};
 
 use crate::changes::{PlacedBytes, RelocatedBytes};
+use crate::entry_rows::WindowReach;
 use crate::image_items::CopyBytes;
 use elf_source::{Counted, READ_BYTES, Source};
 use elf_table::{Fault, fill};
@@ -69,6 +70,16 @@ impl<'w> ImageWindow<'w> {
     /// Returns the bytes.
     pub(crate) fn bytes(&self) -> &[u8] {
         self.bytes
+    }
+
+    /// Returns the addresses at which at most 16 bytes may be in the window, of a segment at an
+    /// address.
+    pub(crate) fn reach(&self, segment: u64) -> WindowReach {
+        let first = segment.saturating_add(self.low);
+        WindowReach {
+            first: first.saturating_sub(15),
+            last: first.saturating_add(self.bytes.len() as u64),
+        }
     }
 
     /// Stores the part of what a relocation stores in this segment that falls into the window. A
