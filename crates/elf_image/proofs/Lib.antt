@@ -1,5 +1,5 @@
 pub mod AliveSteps
-pub mod EntryRowSteps
+pub mod RelaRowSteps
 pub mod ItemSteps
 pub mod MarkSteps
 pub mod RelativeSteps

@@ -4,5 +4,5 @@ pub mod Values
 pub mod Within
 pub mod Missing
 pub mod Marks
-pub mod EntryRows
+pub mod RelaRows
 pub mod RelativeRows

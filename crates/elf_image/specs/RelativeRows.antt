@@ -1,5 +1,5 @@
 -- The relative relocations that are left of a walk over their table.
-use Rattle.std.specs.Prelude.{ℕ, zero, suc, ◌≡◌, ◌+◌, ◌*◌, ◌/◌, ◌%◌, ◌≤◌, ◌==◌, ◌||◌, nat_lt, if◌then◌else◌, true, false, List, [], ◌∷◌, ◌++◌, Option, None, Some, Result, Ok, Err, option_map, unwrap_or}
+use Rattle.std.specs.Prelude.{ℕ, zero, suc, ◌≡◌, ◌+◌, ◌*◌, ◌/◌, ◌%◌, ◌<◌, ◌==◌, ◌||◌, nat_lt, if◌then◌else◌, true, false, List, [], ◌∷◌, ◌++◌, Option, None, Some, Result, Ok, Err, option_map, unwrap_or}
 use Rattle.elf_model.specs.Image.{RelativeAddress, word_addresses}
 use Rattle.elf_model.specs.Prelude.{IsBudgetRefusal}
 use Rattle.elf_model.specs.Records.{relr_word}
@@ -36,7 +36,9 @@ relative_left file rows = word_left rows ++ words_left file rows.cursor.table.at
 -- the rows are those of a file: the cursor holds its bytes, and the address after the bits that are
 -- left is that of the words so far
 pub record AreRowsOf (file : List ℕ) (rows : RelativeRows) : Type 0 where
+  pub unfailed : rows.cursor.failed ≡ None
   pub holds : HoldsRows file rows.cursor
+  pub based : 0 < rows.left → (address : ℕ) × (rows.next ≡ Some address)
   pub base : option_map (λ address. address + 8 * rows.left) rows.next ≡ bitmap_base file rows.cursor.table.at rows.cursor.index
 
 -- an address is refused: there is none, its word ends past 2^64, or it is below the lowest that may be

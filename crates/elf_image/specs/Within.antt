@@ -8,7 +8,7 @@ use Rattle.elf_image.specs.declared.changes.Relocations.{Relocations}
 use Rattle.elf_image.specs.declared.entries.EntryStep.{EntryStep}
 use Rattle.elf_image.specs.declared.entries.EntryStep.TheVariants.{Past}
 use Rattle.elf_image.specs.declared.entries.OrderedEntries.{OrderedEntries}
-use Rattle.elf_image.specs.declared.entry_rows.EntryRows.{EntryRows}
+use Rattle.elf_image.specs.declared.rela_rows.RelaRows.{RelaRows}
 use Rattle.elf_image.specs.declared.ranges.EntryRanges.{EntryRanges}
 use Rattle.elf_image.specs.declared.relative_rows.RelativeRows.{RelativeRows}
 use Rattle.elf_image.specs.declared.relative_rows.RelativeStep.{RelativeStep}
@@ -58,7 +58,7 @@ StepsRelativeRows old new Ended = row_steps new ≤ row_steps old
 StepsRelativeRows old new step = row_steps new < row_steps old
 
 -- the entries that are left can be read: the window is at the next one, and holds whole entries
-pub record EntryRowsAlive (size : ℕ) (rows : EntryRows) : Type 0 where
+pub record RelaRowsAlive (size : ℕ) (rows : RelaRows) : Type 0 where
   pub table : IsTableWithin 24 size rows.table
   pub index : rows.index ≤ rows.table.count
   pub place : rows.window.at ≡ rows.table.at + 24 * rows.index
@@ -70,18 +70,18 @@ pub record EntryRowsAlive (size : ℕ) (rows : EntryRows) : Type 0 where
   pub whole : length rows.window.held ≡ 24 * held
 
 -- how many entries are left
-abbrev pub rows_left : EntryRows → ℕ
-rows_left rows = rows.table.count - rows.index
+abbrev pub entries_ahead : RelaRows → ℕ
+entries_ahead rows = rows.table.count - rows.index
 
 pub record EntriesAlive (size : ℕ) (entries : OrderedEntries) : Type 0 where
   pub ranges : RangesWithin size entries.ranges
-  pub rows : EntryRowsAlive size entries.rows
+  pub rows : RelaRowsAlive size entries.rows
   pub begun : entries.begun ≤ 4
-  pub few : rows_left entries.rows ≤ entries.ranges.first.count + entries.ranges.second.count
+  pub few : entries_ahead entries.rows ≤ entries.ranges.first.count + entries.ranges.second.count
 
 abbrev pub entry_steps : OrderedEntries → ℕ
 entry_steps entries =
-    (4 - entries.begun) * (1 + (entries.ranges.first.count + entries.ranges.second.count)) + rows_left entries.rows
+    (4 - entries.begun) * (1 + (entries.ranges.first.count + entries.ranges.second.count)) + entries_ahead entries.rows
 
 abbrev pub StepsOrderedEntries : (old new : OrderedEntries) → EntryStep → Type 0
 StepsOrderedEntries old new Past = Unit {0}

@@ -1,12 +1,12 @@
 //! The relocation entries in the order in which a loader applies them.
 ghost use Rattle.std.specs.Prelude.{◌≡◌, ◌+◌, ◌<◌, ◌≤◌, ℕ, IfOk};
 ghost use Rattle.elf_source.specs.Prelude.{KeepsSource};
-ghost use Rattle.elf_image.specs.Within.{EntriesAlive, EntryRowsAlive, RangesWithin, StepsOrderedEntries};
-ghost use Rattle.elf_image.specs.Within.{IsTableWithin, rows_left};
+ghost use Rattle.elf_image.specs.Within.{EntriesAlive, RelaRowsAlive, RangesWithin, StepsOrderedEntries};
+ghost use Rattle.elf_image.specs.Within.{IsTableWithin, entries_ahead};
 ghost use Rattle.elf_image.specs.declared.entries.EntryStep.TheVariants.{Past};
 
-use crate::entry_rows::{EntryRow, EntryRows, WindowReach};
 use crate::ranges::EntryRanges;
+use crate::rela_rows::{RelaRow, RelaRows, WindowReach};
 use elf_record::gnu_numbers::R_X86_64_IRELATIVE;
 use elf_record::numbers::R_X86_64_RELATIVE;
 use elf_record::sizes::RELOCATION_BYTES;
@@ -48,7 +48,7 @@ pub(crate) enum EntryStep {
 #[derive(Drop)]
 pub(crate) struct OrderedEntries {
     pub(crate) ranges: EntryRanges,
-    pub(crate) rows: EntryRows,
+    pub(crate) rows: RelaRows,
     part: EntryPart,
     /// How many parts were begun, of four.
     pub(crate) begun: u8,
@@ -66,7 +66,7 @@ impl OrderedEntries {
         let table = Table::new(0, 0, RELOCATION_BYTES);
         OrderedEntries {
             ranges,
-            rows: EntryRows::new(table),
+            rows: RelaRows::new(table),
             part: EntryPart {
                 table,
                 indirect: false,
@@ -109,12 +109,12 @@ impl OrderedEntries {
         ensures ranges { self.new.ranges ≡ self.old.ranges }
         ensures begun { self.new.begun ≡ self.old.begun + 1 }
         ensures alive { (size : ℕ) → RangesWithin size self.old.ranges →
-            EntryRowsAlive size self.new.rows }
-        ensures few { rows_left self.new.rows
+            RelaRowsAlive size self.new.rows }
+        ensures few { entries_ahead self.new.rows
             ≤ self.old.ranges.first.count + self.old.ranges.second.count }
     {
         let part = self.part_of(self.begun);
-        let rows = EntryRows::new(part.table);
+        let rows = RelaRows::new(part.table);
         self.part = part;
         self.begun += 1;
         self.rows = rows;
@@ -166,7 +166,7 @@ impl OrderedEntries {
     }
 
     /// Returns the entry that was read, if it belongs to the part.
-    fn taken(&mut self, row: EntryRow) -> Result<EntryStep, Fault>
+    fn taken(&mut self, row: RelaRow) -> Result<EntryStep, Fault>
         ensures rows { self.new.rows ≡ self.old.rows }
         ensures ranges { self.new.ranges ≡ self.old.ranges }
         ensures begun { self.new.begun ≡ self.old.begun }

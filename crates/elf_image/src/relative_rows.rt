@@ -1,5 +1,6 @@
 //! The rows of relative relocations.
 ghost use Rattle.std.specs.Prelude.{◌≡◌, ◌+◌, ◌*◌, ◌^◌, ◌<◌, ◌≤◌, ℕ, List, ◌∷◌, Some, IfOk, IfSome, length, option_map};
+ghost use Rattle.std.specs.Prelude.{unwrap_or};
 ghost use Rattle.elf_model.specs.Image.{RelativeAddress, word_addresses};
 ghost use Rattle.elf_model.specs.Prelude.{field};
 ghost use Rattle.elf_model.specs.RelativeRelocations.{base_after};
@@ -114,6 +115,7 @@ impl RelativeRows {
         ensures base { IfOk result (λ _.
             option_map (λ address. address + 8 * self.new.left) self.new.next
             ≡ base_after self.old.next (field self.old.cursor.row 0 8)) }
+        ensures based { 0 < self.new.left → (address : ℕ) × (self.new.next ≡ Some address) }
     {
         let row = self.cursor.row();
         let word = u64_at(row.bytes, 0);
@@ -139,6 +141,7 @@ impl RelativeRows {
         ensures next { (most : ℕ) → 504 ≤ most →
             IfSome self.old.next (λ address. address + 8 * self.old.left ≤ most) →
             IfSome self.new.next (λ address. address + 8 * self.new.left ≤ most) }
+        ensures after { self.new.next ≡ Some (unwrap_or self.old.next 0 + 8) }
         ensures takes { TakesAddress self.old.low self.new.low (word_left self.old)
             (word_left self.new) result }
         ensures goes { IfOk result (λ step. step ≡ Ended → ⊥) }

@@ -5,10 +5,10 @@ ghost use Rattle.elf_hash.specs.Loading.{FitsSource};
 ghost use Rattle.elf_image.specs.Within.{ImageWithin};
 
 use crate::changes::{ImageFile, told_relocations};
-use crate::entry_rows::WindowReach;
 use crate::headers::{check_headers, load_image, wanted_segment};
 use crate::image_items::ImageItems;
 use crate::marks::WindowMarks;
+use crate::rela_rows::WindowReach;
 use crate::walk::{ImageWalk, WalkStep};
 use crate::window::{ImageWindow, SegmentBytes};
 use elf_record::{Cause, Phdr, Refusal};

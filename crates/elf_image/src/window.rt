@@ -5,8 +5,8 @@ ghost use Rattle.elf_model.specs.ApplyLaws.{clipped};
 ghost use Rattle.elf_source.specs.Prelude.{KeepsSource};
 
 use crate::changes::{PlacedBytes, RelocatedBytes};
-use crate::entry_rows::WindowReach;
 use crate::image_items::CopyBytes;
+use crate::rela_rows::WindowReach;
 use elf_source::{Counted, READ_BYTES, Source};
 use elf_table::{Fault, fill};
 

@@ -7,20 +7,14 @@ pub returns-then-address-gt-MAX_ADDRESS-clause-takes : goal.returns-then-address
 returns-then-address-gt-MAX_ADDRESS-clause-takes c = λ after. rw c.refused.ensures
     (λ fits. (
       Some c.args.address,
-      (
-        after,
-        (
-          refl,
-          (
-            refl,
-            elim c.then-address-gt-MAX_ADDRESS.branch [
-              | then-address-gt-MAX_ADDRESS-via-then-address-gt-MAX_ADDRESS w ↦ out-of-range c.args.address c.args.self.now.low w.if-address-gt-MAX_ADDRESS.true
-              | then-address-gt-MAX_ADDRESS-via-else-address-gt-MAX_ADDRESS+then-address-self w ↦ too-low c.args.address c.args.self.now.low w.if-address-self.true
-            ],
-          ),
-        ),
-      ),
+      after,
+      refl,
+      refl,
+      elim c.then-address-gt-MAX_ADDRESS.branch [
+        | then-address-gt-MAX_ADDRESS-via-then-address-gt-MAX_ADDRESS w ↦ out-of-range c.args.address c.args.self.now.low w.if-address-gt-MAX_ADDRESS.true
+        | then-address-gt-MAX_ADDRESS-via-else-address-gt-MAX_ADDRESS+then-address-self w ↦ too-low c.args.address c.args.self.now.low w.if-address-self.true
+      ],
     ))
 
 pub returns-clause-takes : goal.returns-clause-takes
-returns-clause-takes c = λ after. (refl, (in-range c.args.address c.args.self.now.low c.if-address-gt-MAX_ADDRESS.false c.if-address-self.false, refl))
+returns-clause-takes c = λ after. (refl, in-range c.args.address c.args.self.now.low c.if-address-gt-MAX_ADDRESS.false c.if-address-self.false, refl)

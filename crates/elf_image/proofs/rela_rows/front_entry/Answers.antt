@@ -1,7 +1,7 @@
 use Rattle.std.proofs.Common.{◌≡◌, ◌∙◌, ◌+◌, ◌^◌, ◌<◌, take, arith}
 use Rattle.elf_model.specs.Bytes.{field, slice}
-use Rattle.elf_image.proofs.EntryRowSteps.{addend-fits}
-use Rattle.elf_image.proofs.entry_rows.front_entry.Goals as goal
+use Rattle.elf_image.proofs.RelaRowSteps.{addend-fits}
+use Rattle.elf_image.proofs.rela_rows.front_entry.Goals as goal
 
 pub returns : goal.returns
 returns c = λ file at is.

@@ -1,6 +1,6 @@
 use Rattle.std.proofs.Common.{◌≡◌, ◌∙◌, ◌*◌, ◌+◌, ◌≤◌, length, take, ap, arith}
 use Rattle.elf_table.proofs.Paging.{held-front}
-use Rattle.elf_image.proofs.entry_rows.EntryRows.take.Goals as goal
+use Rattle.elf_image.proofs.rela_rows.RelaRows.take.Goals as goal
 
 pub returns-clause-taken : goal.returns-clause-taken
 returns-clause-taken c = λ file holds.

@@ -1,5 +1,5 @@
 use Rattle.std.proofs.Common.{◌≡◌, ◌+◌, ◌-◌, ◌*◌, below_more, arith}
-use Rattle.elf_image.proofs.entry_rows.far_rows.Goals as goal
+use Rattle.elf_image.proofs.rela_rows.far_rows.Goals as goal
 
 pub loop-rows-preserved : goal.loop-rows-preserved
 loop-rows-preserved c = record {

@@ -1,7 +1,7 @@
 use Rattle.std.proofs.Common.{◌∙◌, ap, sym, arith}
-use Rattle.elf_image.specs.EntryRows.{is_in_reach}
-use Rattle.elf_image.proofs.EntryRowSteps.{far-bytes, untrue}
-use Rattle.elf_image.proofs.entry_rows.is_far.Goals as goal
+use Rattle.elf_image.specs.RelaRows.{is_in_reach}
+use Rattle.elf_image.proofs.RelaRowSteps.{far-bytes, untrue}
+use Rattle.elf_image.proofs.rela_rows.is_far.Goals as goal
 
 pub returns : goal.returns
 returns c = λ no.

@@ -6,10 +6,10 @@ use Rattle.elf_model.specs.Records.{r_addend, r_offset, r_type}
 use Rattle.elf_model.specs.Numbers.{R_X86_64_IRELATIVE}
 use Rattle.elf_record.specs.Rela.{IsRela}
 use Rattle.elf_table.specs.Windows.{HoldsBytes}
-use Rattle.elf_image.specs.Within.{EntryRowsAlive}
-use Rattle.elf_image.specs.declared.entry_rows.EntryRow.{EntryRow}
-use Rattle.elf_image.specs.declared.entry_rows.EntryRows.{EntryRows}
-use Rattle.elf_image.specs.declared.entry_rows.WindowReach.{WindowReach}
+use Rattle.elf_image.specs.Within.{RelaRowsAlive}
+use Rattle.elf_image.specs.declared.rela_rows.RelaRow.{RelaRow}
+use Rattle.elf_image.specs.declared.rela_rows.RelaRows.{RelaRows}
+use Rattle.elf_image.specs.declared.rela_rows.WindowReach.{WindowReach}
 
 -- an address is one of those at which an entry may store into a window
 abbrev pub is_in_reach : WindowReach → ℕ → Bool
@@ -37,31 +37,31 @@ IsFarRow file rela None = ⊥
 IsFarRow file rela (Some reach) = IsFarEntry file rela reach
 
 -- the offset of the entry of an index
-abbrev pub entry_place : EntryRows → (index : ℕ) → ℕ
+abbrev pub entry_place : RelaRows → (index : ℕ) → ℕ
 entry_place rows index = rows.table.at + 24 * index
 
 -- entries that were read are passed
-pub record PassesHeld (old new : EntryRows) (count : ℕ) : Type 0 where
+pub record PassesHeld (old new : RelaRows) (count : ℕ) : Type 0 where
   pub table : new.table ≡ old.table
   pub index : new.index ≡ old.index + count
   pub unread : new.window.unread ≡ old.window.unread
-  pub alive : (size : ℕ) → EntryRowsAlive size old → EntryRowsAlive size new
+  pub alive : (size : ℕ) → RelaRowsAlive size old → RelaRowsAlive size new
   pub agrees : (file : List ℕ) → HoldsBytes file old.window → HoldsBytes file new.window
 
 -- the next entry, as it is taken
-pub record IsEntryRow (file : List ℕ) (old : EntryRows) (row : EntryRow) : Type 0 where
+pub record IsRelaRow (file : List ℕ) (old : RelaRows) (row : RelaRow) : Type 0 where
   pub place : row.at ≡ entry_place old old.index
   pub entry : IsRela file row.at row.entry
   pub addend : r_addend file row.at < 2 ^ 64
 
 -- how a call goes on: to the next entry, which it returns, or over some
-abbrev pub PassesRows : (old new : EntryRows) → Option WindowReach → Option EntryRow → Type 0
+abbrev pub PassesRows : (old new : RelaRows) → Option WindowReach → Option RelaRow → Type 0
 PassesRows old new None None = ⊥
 PassesRows old new (Some reach) None = old.index < new.index
 PassesRows old new wanted (Some row) = (new.index ≡ old.index + 1) × (row.index ≡ old.index)
 
 -- what a call takes of a file: the next entry, or some that cannot store into the window that is
 -- wanted
-abbrev pub TakesRows : List ℕ → (old new : EntryRows) → Option WindowReach → Option EntryRow → Type 0
+abbrev pub TakesRows : List ℕ → (old new : RelaRows) → Option WindowReach → Option RelaRow → Type 0
 TakesRows file old new wanted None = (i : ℕ) → old.index ≤ i → i < new.index → IsFarRow file (entry_place old i) wanted
-TakesRows file old new wanted (Some row) = IsEntryRow file old row
+TakesRows file old new wanted (Some row) = IsRelaRow file old row

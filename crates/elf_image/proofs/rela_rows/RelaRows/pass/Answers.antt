@@ -1,6 +1,6 @@
 use Rattle.std.proofs.Common.{◌≡◌, ◌+◌, ◌*◌, ◌^◌, ◌≤◌, ◌<◌, length, arith}
-use Rattle.elf_image.proofs.EntryRowSteps.{passes}
-use Rattle.elf_image.proofs.entry_rows.EntryRows.pass.Goals as goal
+use Rattle.elf_image.proofs.RelaRowSteps.{passes}
+use Rattle.elf_image.proofs.rela_rows.RelaRows.pass.Goals as goal
 
 pub overflow_mul-rows : goal.overflow_mul-rows
 overflow_mul-rows c = let few = c.requires.alive.1.few in omega (arith, c.requires.some, few)

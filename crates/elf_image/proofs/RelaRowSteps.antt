@@ -6,12 +6,12 @@ use Rattle.elf_model.specs.Records.{r_offset, r_type}
 use Rattle.elf_model.proofs.Slices.{field-slice, get_or-slice, slice-slice}
 use Rattle.elf_table.specs.WindowCalls.{Skips}
 use Rattle.elf_table.specs.Windows.{HoldsBytes, HoldsCount, WindowState, range_end}
-use Rattle.elf_image.specs.EntryRows.{AreFarRows, IsFarEntry, IsRowFar, PassesHeld, is_in_reach}
-use Rattle.elf_image.specs.Within.{EntryRowsAlive}
-use Rattle.elf_image.specs.declared.entry_rows.EntryRows.{EntryRows}
-use Rattle.elf_image.specs.declared.entry_rows.WindowReach.{WindowReach}
+use Rattle.elf_image.specs.RelaRows.{AreFarRows, IsFarEntry, IsRowFar, PassesHeld, is_in_reach}
+use Rattle.elf_image.specs.Within.{RelaRowsAlive}
+use Rattle.elf_image.specs.declared.rela_rows.RelaRows.{RelaRows}
+use Rattle.elf_image.specs.declared.rela_rows.WindowReach.{WindowReach}
 
-pub passes : (old : EntryRows) (count : ℕ) (window : WindowState) → 24 * count ≤ length old.window.held
+pub passes : (old : RelaRows) (count : ℕ) (window : WindowState) → 24 * count ≤ length old.window.held
     → Skips old.window window (count * 24)
     → PassesHeld old (record { table = old.table; index = old.index + count; window = window }) count
 passes old count window few skips =
@@ -35,9 +35,9 @@ passes old count window few skips =
     }
 
 -- the window holds the next entry
-pub filled : (size : ℕ) (rows : EntryRows) (window : WindowState) → EntryRowsAlive size rows → rows.index < rows.table.count
+pub filled : (size : ℕ) (rows : RelaRows) (window : WindowState) → RelaRowsAlive size rows → rows.index < rows.table.count
     → HoldsCount rows.window window 24 → window.page ≡ rows.window.page → range_end window ≡ range_end rows.window
-    → EntryRowsAlive size (record { table = rows.table; index = rows.index; window = window })
+    → RelaRowsAlive size (record { table = rows.table; index = rows.index; window = window })
 filled size rows window a some holds page end = elim (cases_lt (length rows.window.held) 24) [
   | inl short ↦
       let long : length window.held ≡ min rows.window.page (length rows.window.held + rows.window.unread) = holds.whole short in

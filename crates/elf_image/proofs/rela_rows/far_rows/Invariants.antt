@@ -1,7 +1,7 @@
 -- The entries so far cannot store into the window.
 use Rattle.std.proofs.Common.{◌-◌, ◌≤◌}
-use Rattle.elf_image.specs.EntryRows.{AreFarRows}
-use Rattle.elf_image.proofs.entry_rows.far_rows.Given as goal
+use Rattle.elf_image.specs.RelaRows.{AreFarRows}
+use Rattle.elf_image.proofs.rela_rows.far_rows.Given as goal
 
 abbrev pub invariant-loop-rows : goal.invariant-loop-rows
 invariant-loop-rows l = record {

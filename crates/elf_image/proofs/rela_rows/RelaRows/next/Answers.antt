@@ -1,6 +1,6 @@
 use Rattle.std.proofs.Common.{◌≡◌, ◌∙◌, ap, arith}
-use Rattle.elf_image.proofs.EntryRowSteps.{far-entries, filled}
-use Rattle.elf_image.proofs.entry_rows.EntryRows.next.Goals as goal
+use Rattle.elf_image.proofs.RelaRowSteps.{far-entries, filled}
+use Rattle.elf_image.proofs.rela_rows.RelaRows.next.Goals as goal
 
 pub pass-requires-clause-alive : goal.pass-requires-clause-alive
 pass-requires-clause-alive g c =

@@ -7,9 +7,9 @@ ghost use Rattle.elf_record.specs.Rela.{IsRela};
 ghost use Rattle.elf_source.specs.Prelude.{ReadsUpTo};
 ghost use Rattle.elf_table.specs.Faults.{IsReadFault};
 ghost use Rattle.elf_table.specs.Windows.{HoldsBytes};
-ghost use Rattle.elf_image.specs.EntryRows.{AreFarRows, IsEntryRow, PassesHeld, PassesRows, TakesRows};
-ghost use Rattle.elf_image.specs.EntryRows.{IsRowFar, is_in_reach};
-ghost use Rattle.elf_image.specs.Within.{EntryRowsAlive, IsTableWithin};
+ghost use Rattle.elf_image.specs.RelaRows.{AreFarRows, IsRelaRow, PassesHeld, PassesRows, TakesRows};
+ghost use Rattle.elf_image.specs.RelaRows.{IsRowFar, is_in_reach};
+ghost use Rattle.elf_image.specs.Within.{RelaRowsAlive, IsTableWithin};
 
 use elf_record::gnu_numbers::R_X86_64_IRELATIVE;
 use elf_record::numbers::R_X86_64_COPY;
@@ -46,7 +46,7 @@ impl WindowReach {
 
 /// An entry of a table: its index and its offset in the file.
 #[derive(Clone, Copy)]
-pub(crate) struct EntryRow {
+pub(crate) struct RelaRow {
     pub(crate) index: u64,
     pub(crate) at: u64,
     pub(crate) entry: Rela,
@@ -55,25 +55,25 @@ pub(crate) struct EntryRow {
 /// A cursor over the entries of a table, 24 bytes each. It reads as many as fit in 4,096 bytes at
 /// once.
 #[derive(Drop)]
-pub(crate) struct EntryRows {
+pub(crate) struct RelaRows {
     pub(crate) table: Table,
     /// The index of the next entry.
     pub(crate) index: u64,
     pub(crate) window: Window<WINDOW_BYTES>,
 }
 
-impl EntryRows {
+impl RelaRows {
     /// Creates a cursor before the first entry.
-    pub(crate) fn new(table: Table) -> EntryRows
+    pub(crate) fn new(table: Table) -> RelaRows
         requires { table.entry ≡ 24 }
         ensures table { result.table ≡ table }
         ensures index { result.index ≡ 0 }
         ensures unread { result.window.unread ≡ 24 * table.count }
-        ensures alive { (size : ℕ) → IsTableWithin 24 size table → EntryRowsAlive size result }
+        ensures alive { (size : ℕ) → IsTableWithin 24 size table → RelaRowsAlive size result }
         ensures held { (file : List ℕ) → HoldsBytes file result.window }
     {
         let _ = table.entry();
-        EntryRows {
+        RelaRows {
             table,
             index: 0,
             window: Window::new(table.at(), table.len() * RELOCATION_BYTES, PAGE_BYTES),
@@ -97,15 +97,15 @@ impl EntryRows {
         &mut self,
         src: &mut Counted<S>,
         wanted: Option<WindowReach>,
-    ) -> Result<Option<EntryRow>, Fault>
-        requires alive { EntryRowsAlive src.old.seen.size self.old }
+    ) -> Result<Option<RelaRow>, Fault>
+        requires alive { RelaRowsAlive src.old.seen.size self.old }
         requires some { self.old.index < self.old.table.count }
         ensures reads { ReadsUpTo src.old src.new self.old.window.unread }
         ensures says { IfErr result (IsReadFault src.old src.new self.old.window.unread) }
         ensures account { src.new.asked + self.new.window.unread
             ≤ src.old.asked + self.old.window.unread }
         ensures table { self.new.table ≡ self.old.table }
-        ensures alive { IfOk result (λ _. EntryRowsAlive src.old.seen.size self.new) }
+        ensures alive { IfOk result (λ _. RelaRowsAlive src.old.seen.size self.new) }
         ensures passes { IfOk result (PassesRows self.old self.new wanted) }
         ensures taken { (file : List ℕ) → src.old.seen.file ≡ Some file →
             HoldsBytes file self.old.window → IfOk result (λ found.
@@ -123,24 +123,24 @@ impl EntryRows {
     }
 
     /// Takes the next entry, which was read.
-    fn take(&mut self) -> EntryRow
-        requires alive { (size : ℕ) × EntryRowsAlive size self.old }
+    fn take(&mut self) -> RelaRow
+        requires alive { (size : ℕ) × RelaRowsAlive size self.old }
         requires some { 24 ≤ length self.old.window.held }
         ensures passes { PassesHeld self.old self.new 1 }
         ensures index { result.index ≡ self.old.index }
         ensures taken { (file : List ℕ) → HoldsBytes file self.old.window →
-            IsEntryRow file self.old result }
+            IsRelaRow file self.old result }
     {
         let index = self.index;
         let at = self.window.at();
         let entry = front_entry(self.window.front());
         self.pass(1);
-        EntryRow { index, at, entry }
+        RelaRow { index, at, entry }
     }
 
     /// Passes entries that were read.
     fn pass(&mut self, rows: u64)
-        requires alive { (size : ℕ) × EntryRowsAlive size self.old }
+        requires alive { (size : ℕ) × RelaRowsAlive size self.old }
         requires some { 24 * rows ≤ length self.old.window.held }
         ensures { PassesHeld self.old self.new rows }
     {
