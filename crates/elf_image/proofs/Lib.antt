@@ -3,4 +3,5 @@ pub mod RelaRowSteps
 pub mod ItemSteps
 pub mod MarkSteps
 pub mod RelativeSteps
+pub mod SegmentPartSteps
 pub mod StoredSteps

@@ -6,3 +6,4 @@ pub mod Missing
 pub mod Marks
 pub mod RelaRows
 pub mod RelativeRows
+pub mod SegmentParts

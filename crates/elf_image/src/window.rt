@@ -1,8 +1,11 @@
 //! A window of a segment.
-ghost use Rattle.std.specs.Prelude.{◌≡◌, ◌+◌, ◌<◌, ◌≤◌, ◌^◌, length, ℕ};
+ghost use Rattle.std.specs.Prelude.{◌≡◌, ◌+◌, ◌-◌, ◌<◌, ◌≤◌, ◌^◌, length, min, ℕ, List, Some, IfOk, OnOk};
 ghost use Rattle.elf_model.specs.Apply.{put};
 ghost use Rattle.elf_model.specs.ApplyLaws.{clipped};
+ghost use Rattle.elf_model.specs.Bytes.{slice};
 ghost use Rattle.elf_source.specs.Prelude.{KeepsSource};
+ghost use Rattle.elf_table.specs.Ledger.{CallReads, fault_of_result};
+ghost use Rattle.elf_image.specs.SegmentParts.{IsPartOf, IsWindowOf};
 
 use crate::changes::{PlacedBytes, RelocatedBytes};
 use crate::image_items::CopyBytes;
@@ -26,10 +29,10 @@ pub(crate) struct SegmentBytes {
 #[derive(Drop)]
 pub(crate) struct ImageWindow<'w> {
     /// The offset of the window in the segment.
-    low: u64,
-    bytes: &'w mut [u8],
-    before: [u8; EDGE_BYTES],
-    after: [u8; EDGE_BYTES],
+    pub(crate) low: u64,
+    pub(crate) bytes: &'w mut [u8],
+    pub(crate) before: [u8; EDGE_BYTES],
+    pub(crate) after: [u8; EDGE_BYTES],
 }
 
 impl<'w> ImageWindow<'w> {
@@ -45,7 +48,12 @@ impl<'w> ImageWindow<'w> {
     ) -> Result<ImageWindow<'w>, Fault>
         requires within { segment.at + segment.size ≤ src.old.seen.size }
         requires fits { low + length bytes.old < 2 ^ 64 }
-        ensures { KeepsSource src.old.seen src.new.seen }
+        ensures keeps { KeepsSource src.old.seen src.new.seen }
+        ensures costs { CallReads src.old src.new (fault_of_result result)
+            (14 + min (segment.size - low) (length bytes.old)) }
+        ensures shows { (file : List ℕ) → src.old.seen.file ≡ Some file →
+            src.old.seen.size < 2 ^ 64 →
+            IfOk result (IsWindowOf (slice file segment.at segment.size) low) }
     {
         let mut before = [0; EDGE_BYTES];
         let mut after = [0; EDGE_BYTES];
@@ -182,7 +190,11 @@ fn read_part<S: Source>(
 ) -> Result<(), Fault>
     requires { segment.at + segment.size ≤ src.old.seen.size }
     ensures keeps { KeepsSource src.old.seen src.new.seen }
+    ensures costs { CallReads src.old src.new (fault_of_result result)
+        (min (segment.size - low) (length bytes.old)) }
     ensures long { length bytes.new ≡ length bytes.old }
+    ensures read { (file : List ℕ) → src.old.seen.file ≡ Some file → src.old.seen.size < 2 ^ 64 →
+        OnOk result (IsPartOf (slice file segment.at segment.size) low bytes.new) }
 {
     let held = segment.size.saturating_sub(low).min(bytes.len() as u64) as usize;
     if held > 0 {
@@ -196,7 +208,10 @@ fn read_part<S: Source>(
 fn read_bytes<S: Source>(src: &mut Counted<S>, at: u64, bytes: &mut [u8]) -> Result<(), Fault>
     requires { at + length bytes.old ≤ src.old.seen.size }
     ensures keeps { KeepsSource src.old.seen src.new.seen }
+    ensures costs { CallReads src.old src.new (fault_of_result result) (length bytes.old) }
     ensures long { length bytes.new ≡ length bytes.old }
+    ensures read { (file : List ℕ) → src.old.seen.file ≡ Some file → src.old.seen.size < 2 ^ 64 →
+        OnOk result (bytes.new ≡ slice file at (length bytes.old)) }
 {
     let mut done = 0;
     while done < bytes.len() {
