@@ -1,10 +1,10 @@
 -- A part of a segment is read in pieces.
-use Rattle.std.proofs.Common.{◌≡◌, ◌∙◌, ℕ, ◌+◌, ◌-◌, ◌*◌, ◌<◌, ◌≤◌, List, ◌++◌, length, take, drop, get_or, replicate, min, inl, inr, ap, sym, refl, arith, append_assoc, length-append, length-drop, length-take}
+use Rattle.std.proofs.Common.{◌≡◌, ◌∙◌, ℕ, ◌+◌, ◌-◌, ◌*◌, ◌<◌, ◌≤◌, List, ◌++◌, length, take, drop, get_or, replicate, min, inl, inr, ap, sym, refl, arith, append_assoc, length-append, length-drop, length-take, zero, suc, [], ◌∷◌}
 use Rattle.std.proofs.Math.Seq.{take-append_seam}
 use Rattle.std.proofs.lemmas.Bool.{cases_lt}
 use Rattle.std.proofs.lemmas.List.{get_or_append_left, get_or-append-add, get_or-replicate, get_or_past, length-replicate}
 use borrow.Rule.Slice.PartMut.{put_mid, post_of}
-use Rattle.elf_model.specs.Bytes.{slice}
+use Rattle.elf_model.specs.Bytes.{field, number, slice}
 use Rattle.elf_image.specs.SegmentParts.{IsPartOf}
 use Rattle.elf_model.proofs.Searches.{slice-two}
 use Rattle.elf_model.proofs.Slices.{get_or-slice}
@@ -51,3 +51,27 @@ edge-shown base front part post low edge i short long is shows below least =
     let place : low - edge + k ≡ low + i - 7 = omega (arith, is, least, below) in
     ap (λ n. get_or (front ++ (part ++ post)) n 0) index
     ∙ (get_or-append-add front (part ++ post) k 0 ∙ (get_or_append_left part post 0 k inside ∙ (shows k inside ∙ ap (λ n. get_or base n 0) place)))
+
+-- numbers of the same bytes
+no-number : (n : ℕ) → number (take n []) ≡ 0
+unfolding number
+no-number zero = refl
+no-number (suc n) = refl
+
+number-step : (bytes : List ℕ) (at n : ℕ) → field bytes at (suc n) ≡ get_or bytes at 0 + 256 * field bytes (suc at) n
+unfolding field number
+number-step [] zero n = let none : number (take n []) ≡ 0 = no-number n in omega (arith, none)
+number-step [] (suc at) n = let none : number (take n []) ≡ 0 = no-number n in omega (arith, none)
+number-step (byte ∷ bytes) zero n = refl
+number-step (byte ∷ bytes) (suc at) n = number-step bytes at n
+
+pub field-alike : (a b : List ℕ) (i j n : ℕ) → ((k : ℕ) → k < n → get_or a (i + k) 0 ≡ get_or b (j + k) 0) → field a i n ≡ field b j n
+unfolding field number
+field-alike a b i j zero h = refl
+field-alike a b i j (suc n) h =
+    let here : i ≡ i + 0 = omega arith in
+    let there : j + 0 ≡ j = omega arith in
+    let first : get_or a i 0 ≡ get_or b j 0 = ap (λ k. get_or a k 0) here ∙ (h 0 (omega arith) ∙ ap (λ k. get_or b k 0) there) in
+    let rest : field a (suc i) n ≡ field b (suc j) n =
+    field-alike a b (suc i) (suc j) n (λ k below. ap (λ x. get_or a x 0) (let e : suc i + k ≡ i + suc k = omega arith in e) ∙ (h (suc k) (omega arith) ∙ ap (λ x. get_or b x 0) (let e : j + suc k ≡ suc j + k = omega arith in e))) in
+    number-step a i n ∙ (ap (λ x. x + 256 * field a (suc i) n) first ∙ (ap (λ x. get_or b j 0 + 256 * x) rest ∙ sym (number-step b j n)))

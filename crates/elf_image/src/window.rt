@@ -1,15 +1,16 @@
 //! A window of a segment.
-ghost use Rattle.std.specs.Prelude.{◌≡◌, ◌+◌, ◌-◌, ◌<◌, ◌≤◌, ◌^◌, length, min, ℕ, List, Some, IfOk, OnOk};
+ghost use Rattle.std.specs.Prelude.{◌≡◌, ◌+◌, ◌-◌, ◌<◌, ◌≤◌, ◌^◌, length, min, get_or, ℕ, List, Some, IfOk, OnOk};
 ghost use Rattle.elf_model.specs.Apply.{put};
 ghost use Rattle.elf_model.specs.ApplyLaws.{clipped};
-ghost use Rattle.elf_model.specs.Bytes.{slice};
+ghost use Rattle.elf_model.specs.Bytes.{field, slice};
 ghost use Rattle.elf_source.specs.Prelude.{KeepsSource};
 ghost use Rattle.elf_table.specs.Ledger.{CallReads, fault_of_result};
-ghost use Rattle.elf_image.specs.SegmentParts.{IsPartOf, IsWindowOf};
+ghost use Rattle.elf_image.specs.SegmentParts.{IsPartOf, IsWindowOf, MeetsWord};
 
 use crate::changes::{PlacedBytes, RelocatedBytes};
 use crate::image_items::CopyBytes;
 use crate::rela_rows::WindowReach;
+use elf_record::u64_at;
 use elf_source::{Counted, READ_BYTES, Source};
 use elf_table::{Fault, fill};
 
@@ -110,17 +111,22 @@ impl<'w> ImageWindow<'w> {
 
     /// Returns the word at an offset of the segment, as it is in the file; 0 if it does not meet
     /// the window.
-    fn word(&self, offset: u64) -> u64 {
+    fn word(&self, offset: u64) -> u64
+        ensures { (base : List ℕ) → MeetsWord base self.now offset → result ≡ field base offset 8 }
+    {
         let mut bytes = [0; 8];
         for i in 0..8 {
             bytes[i] = self.byte(offset.saturating_add(i as u64));
         }
-        u64::from_le_bytes(bytes)
+        u64_at(&bytes, 0)
     }
 
     /// Returns the byte at an offset of the segment; 0 if it is more than 7 bytes away from the
     /// window.
-    fn byte(&self, offset: u64) -> u8 {
+    fn byte(&self, offset: u64) -> u8
+        ensures { (base : List ℕ) (word : ℕ) → MeetsWord base self.now word → word ≤ offset →
+            offset < word + 8 → result ≡ get_or base offset 0 }
+    {
         let high = self.low.saturating_add(self.bytes.len() as u64);
         if offset >= high {
             return byte_in(&self.after, offset - high);
@@ -163,7 +169,9 @@ fn put_bytes(window: &mut [u8], low: u64, offset: u64, bytes: &[u8])
 }
 
 /// Returns the byte of an index at the edge after a window, 0 for a larger one.
-fn byte_in(edge: &[u8; EDGE_BYTES], index: u64) -> u8 {
+fn byte_in(edge: &[u8; EDGE_BYTES], index: u64) -> u8
+    ensures { index < 7 → result ≡ get_or edge.now index 0 }
+{
     if index >= EDGE_BYTES as u64 {
         return 0;
     }
@@ -174,6 +182,7 @@ fn byte_in(edge: &[u8; EDGE_BYTES], index: u64) -> u8 {
 /// farther away.
 fn byte_before(edge: &[u8; EDGE_BYTES], distance: u64) -> u8
     requires { 0 < distance }
+    ensures { distance ≤ 7 → result ≡ get_or edge.now (7 - distance) 0 }
 {
     if distance > EDGE_BYTES as u64 {
         return 0;

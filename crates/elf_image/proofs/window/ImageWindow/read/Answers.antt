@@ -21,6 +21,8 @@ returns-clause-shows g c = λ file held small.
     record {
       start = refl;
       bytes = c.in_ok-read_part-2.ensures.read file told (omega (arith, first.same_size, small));
-      before = λ i below least. edge-shown base (take (7 - edge) zeros) c.read_part.new.bytes (post_of (7 - edge) (7 - (7 - edge)) zeros) c.args.low edge i front long is (c.in_ok-read_part.ensures.read file held small) below least;
-      after = rw c.read_part-2.ensures.long after;
+      edges = record {
+        before = λ i below least. edge-shown base (take (7 - edge) zeros) c.read_part.new.bytes (post_of (7 - edge) (7 - (7 - edge)) zeros) c.args.low edge i front long is (c.in_ok-read_part.ensures.read file held small) below least;
+        after = rw c.read_part-2.ensures.long (λ i below. after i (omega (arith, c.read_part-3.ensures.long, below)));
+      };
     }
