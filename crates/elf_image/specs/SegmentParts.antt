@@ -1,5 +1,7 @@
 -- Parts of a segment, as they are read.
 use Rattle.std.specs.Prelude.{ℕ, ◌≡◌, ◌+◌, ◌-◌, ◌^◌, ◌<◌, ◌≤◌, List, length, get_or}
+use Rattle.elf_model.specs.Apply.{put}
+use Rattle.elf_model.specs.ApplyLaws.{clipped}
 use Rattle.elf_image.specs.declared.window.ImageWindow.{ImageWindow}
 
 -- the bytes at an offset of a segment: those that it has in the file, and zeros after these
@@ -26,3 +28,16 @@ pub record MeetsWord (base : List ℕ) (window : ImageWindow) (offset : ℕ) : T
   pub to : offset < window.low + length window.bytes.now
   pub kept : (i : ℕ) → offset ≤ i → i < offset + 8 → window.low ≤ i → i < window.low + length window.bytes.now
       → get_or window.bytes.now (i - window.low) 0 ≡ get_or base i 0
+
+-- a window's place and its edges are kept, and the number of its bytes
+pub record KeepsEdges (old new : ImageWindow) : Type 0 where
+  pub low : new.low ≡ old.low
+  pub before : new.before ≡ old.before
+  pub after : new.after ≡ old.after
+  pub long : length new.bytes.now ≡ length old.bytes.now
+
+-- the part of some bytes at an offset that falls into a window is put there
+abbrev pub PutsBytes : (old new : ImageWindow) → (offset : ℕ) → List ℕ → Type 0
+PutsBytes old new offset bytes =
+    old.low + length old.bytes.now < 2 ^ 64 → offset + length bytes < 2 ^ 64
+    → new.bytes.now ≡ put (clipped old.low (length old.bytes.now) (record { at = offset; bytes = bytes })) old.bytes.now

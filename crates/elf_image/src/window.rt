@@ -1,11 +1,14 @@
 //! A window of a segment.
-ghost use Rattle.std.specs.Prelude.{◌≡◌, ◌+◌, ◌-◌, ◌<◌, ◌≤◌, ◌^◌, length, min, get_or, ℕ, List, Some, IfOk, OnOk};
+ghost use Rattle.std.specs.Prelude.{◌≡◌, ◌+◌, ◌-◌, ◌<◌, ◌≤◌, ◌%◌, ◌^◌, length, min, get_or, ℕ, List, Some, IfOk, OnOk};
 ghost use Rattle.elf_model.specs.Apply.{put};
 ghost use Rattle.elf_model.specs.ApplyLaws.{clipped};
-ghost use Rattle.elf_model.specs.Bytes.{field, slice};
+ghost use Rattle.elf_model.specs.Bytes.{field, little, slice};
 ghost use Rattle.elf_source.specs.Prelude.{KeepsSource};
 ghost use Rattle.elf_table.specs.Ledger.{CallReads, fault_of_result};
-ghost use Rattle.elf_image.specs.SegmentParts.{IsPartOf, IsWindowOf, MeetsWord};
+ghost use Rattle.elf_image.specs.SegmentParts.{IsPartOf, IsWindowOf, KeepsEdges, MeetsWord, PutsBytes};
+ghost use Rattle.elf_image.specs.declared.changes.RelocatedBytes.TheVariants.{Based, Value};
+ghost use Rattle.elf_reloc.specs.Types.{patched_bytes};
+ghost use Rattle.elf_reloc.specs.declared.patch.Patch.{Patch};
 
 use crate::changes::{PlacedBytes, RelocatedBytes};
 use crate::image_items::CopyBytes;
@@ -93,7 +96,15 @@ impl<'w> ImageWindow<'w> {
 
     /// Stores the part of what a relocation stores in this segment that falls into the window. A
     /// word to which the base is added has not been stored to before.
-    pub(crate) fn store(&mut self, change: &PlacedBytes<'_>, base: u64) {
+    #[tactic(auto, unfolding(elf_model::specs::Bytes::little))]
+    pub(crate) fn store(&mut self, change: &PlacedBytes<'_>, base: u64)
+        ensures edges { KeepsEdges self.old self.new }
+        ensures based { (whole : List ℕ) → MeetsWord whole self.old change.now.place.offset →
+            change.now.bytes ≡ Based → PutsBytes self.old self.new change.now.place.offset
+            (little 8 ((field whole change.now.place.offset 8 + base) % 2 ^ 64)) }
+        ensures value { (patch : Patch) → change.now.bytes ≡ Value patch →
+            PutsBytes self.old self.new change.now.place.offset (patched_bytes patch) }
+    {
         let offset = change.place.offset;
         match &change.bytes {
             RelocatedBytes::Based => {
@@ -138,12 +149,17 @@ impl<'w> ImageWindow<'w> {
     }
 
     /// Stores the part of some bytes that falls into the window.
-    fn put(&mut self, offset: u64, bytes: &[u8]) {
+    fn put(&mut self, offset: u64, bytes: &[u8])
+        ensures edges { KeepsEdges self.old self.new }
+        ensures puts { PutsBytes self.old self.new offset bytes.now }
+    {
         put_bytes(self.bytes, self.low, offset, bytes);
     }
 
     /// Stores the part of the bytes of a copied object that falls into the window.
-    fn put_copied(&mut self, offset: u64, bytes: &CopyBytes<'_>) {
+    fn put_copied(&mut self, offset: u64, bytes: &CopyBytes<'_>)
+        ensures { KeepsEdges self.old self.new }
+    {
         for i in 0..bytes.len() {
             self.put(offset.saturating_add(i as u64), &[bytes.byte(i)]);
         }
