@@ -5,6 +5,11 @@ pub mod ItemSteps
 pub mod PlaceSteps
 pub mod RangeSteps
 pub mod RowSteps
+pub mod RelaRowSteps
+pub mod ItemSteps
+pub mod MarkSteps
+pub mod RelativeSteps
+pub mod SegmentPartSteps
 pub mod StoredSteps
 pub mod SymbolSteps
 pub mod TableSteps

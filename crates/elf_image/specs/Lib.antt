@@ -5,3 +5,7 @@ pub mod Within
 pub mod Located
 pub mod Missing
 pub mod Relocated
+pub mod Marks
+pub mod RelaRows
+pub mod RelativeRows
+pub mod SegmentParts

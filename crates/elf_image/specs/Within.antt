@@ -1,12 +1,14 @@
 -- What a walk may read: tables that lie within a source, and how much of them is left.
-use Rattle.std.specs.Prelude.{ℕ, if◌then◌else◌, ◌≡◌, ◌+◌, ◌-◌, ◌*◌, ◌^◌, ◌<◌, ◌≤◌, List, IfSome}
+use Rattle.std.specs.Prelude.{ℕ, if◌then◌else◌, ◌≡◌, ◌+◌, ◌-◌, ◌*◌, ◌^◌, ◌<◌, ◌≤◌, List, length, IfSome}
 use Rattle.elf_model.specs.Prelude.{p_filesz, p_offset}
 use Rattle.elf_table.specs.Prelude.{TableInBounds, TableRange}
+use Rattle.elf_table.specs.Windows.{range_end}
 use Rattle.elf_image.specs.declared.changes.ImageFile.{ImageFile}
 use Rattle.elf_image.specs.declared.changes.Relocations.{Relocations}
 use Rattle.elf_image.specs.declared.entries.EntryStep.{EntryStep}
 use Rattle.elf_image.specs.declared.entries.EntryStep.TheVariants.{Past}
 use Rattle.elf_image.specs.declared.entries.OrderedEntries.{OrderedEntries}
+use Rattle.elf_image.specs.declared.rela_rows.RelaRows.{RelaRows}
 use Rattle.elf_image.specs.declared.ranges.EntryRanges.{EntryRanges}
 use Rattle.elf_image.specs.declared.relative_rows.RelativeRows.{RelativeRows}
 use Rattle.elf_image.specs.declared.relative_rows.RelativeStep.{RelativeStep}
@@ -55,16 +57,31 @@ abbrev pub StepsRelativeRows : (old new : RelativeRows) → RelativeStep → Typ
 StepsRelativeRows old new Ended = row_steps new ≤ row_steps old
 StepsRelativeRows old new step = row_steps new < row_steps old
 
--- the entries that are left can be read
+-- the entries that are left can be read: the window is at the next one, and holds whole entries
+pub record RelaRowsAlive (size : ℕ) (rows : RelaRows) : Type 0 where
+  pub table : IsTableWithin 24 size rows.table
+  pub index : rows.index ≤ rows.table.count
+  pub place : rows.window.at ≡ rows.table.at + 24 * rows.index
+  pub end : range_end rows.window ≡ rows.table.at + 24 * rows.table.count
+  pub page : rows.window.page ≡ 4080
+  pub small : rows.table.count < 2 ^ 64
+  pub few : length rows.window.held ≤ 4080
+  pub held : ℕ
+  pub whole : length rows.window.held ≡ 24 * held
+
+-- how many entries are left
+abbrev pub entries_ahead : RelaRows → ℕ
+entries_ahead rows = rows.table.count - rows.index
+
 pub record EntriesAlive (size : ℕ) (entries : OrderedEntries) : Type 0 where
   pub ranges : RangesWithin size entries.ranges
-  pub table : IsTableWithin 24 size entries.cursor.table
+  pub rows : RelaRowsAlive size entries.rows
   pub begun : entries.begun ≤ 4
-  pub few : entries.cursor.left ≤ entries.ranges.first.count + entries.ranges.second.count
+  pub few : entries_ahead entries.rows ≤ entries.ranges.first.count + entries.ranges.second.count
 
 abbrev pub entry_steps : OrderedEntries → ℕ
 entry_steps entries =
-    (4 - entries.begun) * (1 + (entries.ranges.first.count + entries.ranges.second.count)) + entries.cursor.left
+    (4 - entries.begun) * (1 + (entries.ranges.first.count + entries.ranges.second.count)) + entries_ahead entries.rows
 
 abbrev pub StepsOrderedEntries : (old new : OrderedEntries) → EntryStep → Type 0
 StepsOrderedEntries old new Past = Unit {0}

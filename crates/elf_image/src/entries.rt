@@ -1,16 +1,18 @@
 //! The relocation entries in the order in which a loader applies them.
-ghost use Rattle.std.specs.Prelude.{◌≡◌, ◌+◌, ◌<◌, ◌≤◌, ℕ, IfOk, length};
+ghost use Rattle.std.specs.Prelude.{◌≡◌, ◌+◌, ◌<◌, ◌≤◌, ℕ, IfOk};
 ghost use Rattle.elf_source.specs.Prelude.{KeepsSource};
-ghost use Rattle.elf_image.specs.Within.{EntriesAlive, RangesWithin, StepsOrderedEntries, IsTableWithin};
+ghost use Rattle.elf_image.specs.Within.{EntriesAlive, RelaRowsAlive, RangesWithin, StepsOrderedEntries};
+ghost use Rattle.elf_image.specs.Within.{IsTableWithin, entries_ahead};
 ghost use Rattle.elf_image.specs.declared.entries.EntryStep.TheVariants.{Past};
 
 use crate::ranges::EntryRanges;
+use crate::rela_rows::{RelaRow, RelaRows, WindowReach};
 use elf_record::gnu_numbers::R_X86_64_IRELATIVE;
 use elf_record::numbers::R_X86_64_RELATIVE;
 use elf_record::sizes::RELOCATION_BYTES;
 use elf_record::{Cause, Rela};
 use elf_source::{Counted, Source};
-use elf_table::{Cursor, Fault, Table, refused};
+use elf_table::{Fault, Table, refused};
 
 /// A part of the order: the entries of a table that are of R_X86_64_IRELATIVE, or those that are
 /// not.
@@ -46,23 +48,25 @@ pub(crate) enum EntryStep {
 #[derive(Drop)]
 pub(crate) struct OrderedEntries {
     pub(crate) ranges: EntryRanges,
-    pub(crate) cursor: Cursor,
+    pub(crate) rows: RelaRows,
     part: EntryPart,
     /// How many parts were begun, of four.
     pub(crate) begun: u8,
     /// Whether the first table has an entry of R_X86_64_IRELATIVE, and whether the second has.
     indirect: (bool, bool),
+    /// The window that is wanted: entries that cannot store into it are passed by.
+    wanted: Option<WindowReach>,
 }
 
 impl OrderedEntries {
     /// Creates a cursor before the first entry.
-    pub(crate) fn new(ranges: EntryRanges) -> OrderedEntries
+    pub(crate) fn new(ranges: EntryRanges, wanted: Option<WindowReach>) -> OrderedEntries
         ensures { (size : ℕ) → RangesWithin size ranges → EntriesAlive size result }
     {
         let table = Table::new(0, 0, RELOCATION_BYTES);
         OrderedEntries {
             ranges,
-            cursor: Cursor::new(table),
+            rows: RelaRows::new(table),
             part: EntryPart {
                 table,
                 indirect: false,
@@ -70,6 +74,7 @@ impl OrderedEntries {
             },
             begun: 0,
             indirect: (false, false),
+            wanted,
         }
     }
 
@@ -84,31 +89,35 @@ impl OrderedEntries {
         ensures alive { IfOk result (λ _. EntriesAlive src.old.seen.size self.new) }
         ensures steps { IfOk result (StepsOrderedEntries self.old self.new) }
     {
-        if self.cursor.advance(src)? {
-            return self.taken();
+        if self.rows.is_empty() {
+            if self.begun >= 4 {
+                return Ok(EntryStep::Past);
+            }
+            self.begin_part();
+            return Ok(EntryStep::Nothing);
         }
-        if self.begun >= 4 {
-            return Ok(EntryStep::Past);
+        match self.rows.next(src, self.wanted)? {
+            Some(row) => self.taken(row),
+            None => Ok(EntryStep::Nothing),
         }
-        self.begin_part();
-        Ok(EntryStep::Nothing)
     }
 
     /// Begins the next part; one without entries of its type has no rows.
     fn begin_part(&mut self)
-        requires { self.old.begun < 4 }
+        requires begun { self.old.begun < 4 }
+        requires within { (size : ℕ) × RangesWithin size self.old.ranges }
         ensures ranges { self.new.ranges ≡ self.old.ranges }
         ensures begun { self.new.begun ≡ self.old.begun + 1 }
-        ensures within { (size : ℕ) → RangesWithin size self.old.ranges →
-            IsTableWithin 24 size self.new.cursor.table }
-        ensures few { self.new.cursor.left
+        ensures alive { (size : ℕ) → RangesWithin size self.old.ranges →
+            RelaRowsAlive size self.new.rows }
+        ensures few { entries_ahead self.new.rows
             ≤ self.old.ranges.first.count + self.old.ranges.second.count }
     {
         let part = self.part_of(self.begun);
-        let cursor = Cursor::new(part.table);
+        let rows = RelaRows::new(part.table);
         self.part = part;
         self.begun += 1;
-        self.cursor = cursor;
+        self.rows = rows;
     }
 
     /// Returns the part of a number below 4.
@@ -157,34 +166,32 @@ impl OrderedEntries {
     }
 
     /// Returns the entry that was read, if it belongs to the part.
-    fn taken(&mut self) -> Result<EntryStep, Fault>
-        requires index { 0 < self.old.cursor.index }
-        requires whole { length self.old.cursor.row ≡ 24 }
-        ensures cursor { self.new.cursor ≡ self.old.cursor }
+    fn taken(&mut self, row: RelaRow) -> Result<EntryStep, Fault>
+        ensures rows { self.new.rows ≡ self.old.rows }
         ensures ranges { self.new.ranges ≡ self.old.ranges }
         ensures begun { self.new.begun ≡ self.old.begun }
         ensures goes { IfOk result (λ step. step ≡ Past → ⊥) }
     {
-        let row = self.cursor.row();
-        let at = row.at;
-        let index = row.index;
-        let entry = Rela::decode(row.whole());
-        if !self.part.indirect && self.is_relative(index) && entry.kind() != R_X86_64_RELATIVE {
-            return refused(at, Cause::Unsupported);
+        let kind = row.entry.kind();
+        if !self.part.indirect && self.is_relative(row.index) && kind != R_X86_64_RELATIVE {
+            return refused(row.at, Cause::Unsupported);
         }
-        let is_indirect = entry.kind() == R_X86_64_IRELATIVE;
+        let is_indirect = kind == R_X86_64_IRELATIVE;
         if is_indirect && !self.part.indirect {
             self.note_indirect();
         }
         if is_indirect != self.part.indirect {
             return Ok(EntryStep::Nothing);
         }
-        Ok(EntryStep::Entry(OrderedEntry { entry, at }))
+        Ok(EntryStep::Entry(OrderedEntry {
+            entry: row.entry,
+            at: row.at,
+        }))
     }
 
     /// Notes that the table of the part has an entry of R_X86_64_IRELATIVE.
     fn note_indirect(&mut self)
-        ensures cursor { self.new.cursor ≡ self.old.cursor }
+        ensures rows { self.new.rows ≡ self.old.rows }
         ensures ranges { self.new.ranges ≡ self.old.ranges }
         ensures begun { self.new.begun ≡ self.old.begun }
         ensures part { self.new.part ≡ self.old.part }

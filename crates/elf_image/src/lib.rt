@@ -17,6 +17,7 @@ mod marks;
 mod missing;
 mod place;
 mod ranges;
+mod rela_rows;
 mod relative_rows;
 mod segment_image;
 mod stored;

@@ -1,58 +1,55 @@
 //! Which windows of a segment a place meets.
-ghost use Rattle.std.specs.Prelude.{◌<◌, ◌≤◌};
+ghost use Rattle.std.specs.Prelude.{◌≡◌, ◌+◌, ◌^◌, ◌<◌, ◌≤◌, ◌||◌, ℕ, false};
+ghost use Rattle.elf_image.specs.Marks.{is_window_marked, marked_windows, meets_range};
 
-/// The number of bytes of the marks.
-const MARK_BYTES: usize = 512;
+/// The number of windows that are marked.
+const MARKED_WINDOWS: usize = 4096;
 
-/// A mark for each window that a place meets: a bit for each of the first 4,096 windows; later ones
-/// count as met.
+/// A mark for each window that a place meets, of the first 4,096 windows; later ones count as met.
 #[derive(Clone, Copy)]
 pub(crate) struct WindowMarks {
-    bits: [u8; MARK_BYTES],
+    met: [bool; MARKED_WINDOWS],
 }
 
 impl WindowMarks {
     /// Returns no marks.
-    pub(crate) fn new() -> WindowMarks {
+    pub(crate) fn new() -> WindowMarks
+        ensures { (k : ℕ) → k < 4096 → is_window_marked result.met k ≡ false }
+    {
         WindowMarks {
-            bits: [0; MARK_BYTES],
+            met: [false; MARKED_WINDOWS],
         }
     }
 
     /// Marks the windows of `size` bytes each that `width` bytes at an offset meet.
     pub(crate) fn mark(&mut self, offset: u64, width: u64, size: u64)
         requires { 0 < size }
+        ensures { offset + width ≤ 2 ^ 64 → (k : ℕ) → k < 4096 →
+            is_window_marked self.new.met k
+            ≡ (is_window_marked self.old.met k || meets_range size k offset width) }
     {
         if width == 0 {
             return;
         }
-        let last = (offset.saturating_add(width - 1) / size).min(8 * MARK_BYTES as u64 - 1);
+        let last = (offset.saturating_add(width - 1) / size).min(MARKED_WINDOWS as u64 - 1);
         let mut window = offset / size;
         while window <= last {
-            self.set(window as usize);
+            self.met[window as usize] = true;
             window += 1;
         }
     }
 
-    /// Marks a window of an index below 4,096.
-    fn set(&mut self, window: usize)
-        requires { window < 4096 }
-    {
-        self.bits[window / 8] |= 1 << (window % 8);
-    }
-
     /// Returns `true` if a window is marked.
-    pub(crate) fn is_marked(&self, window: u64) -> bool {
-        if window >= 8 * MARK_BYTES as u64 {
-            return true;
-        }
-        let window = window as usize;
-        self.bits[window / 8] >> (window % 8) & 1 == 1
+    pub(crate) fn is_marked(&self, window: u64) -> bool
+        ensures { result ≡ is_window_marked self.now.met window }
+    {
+        window >= MARKED_WINDOWS as u64 || self.met[window as usize]
     }
 
     /// Returns how many of the first `count` windows are marked.
     pub(crate) fn marked(&self, count: u64) -> u64
-        ensures { result ≤ count }
+        ensures few { result ≤ count }
+        ensures value { result ≡ marked_windows self.now.met count }
     {
         let mut met = 0;
         for window in 0..count {

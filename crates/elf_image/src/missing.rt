@@ -62,7 +62,7 @@ impl<'v, 'a> MissingEntries<'v, 'a> {
             leaves: true,
             told,
         };
-        let walk = ImageWalk::new(&image);
+        let walk = ImageWalk::new(&image, None);
         Ok(MissingEntries { image, walk })
     }
 

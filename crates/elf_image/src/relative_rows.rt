@@ -1,7 +1,14 @@
 //! The rows of relative relocations.
-ghost use Rattle.std.specs.Prelude.{◌≡◌, ◌+◌, ◌*◌, ◌^◌, ◌<◌, ◌≤◌, ℕ, IfOk, IfSome, length};
+ghost use Rattle.std.specs.Prelude.{◌≡◌, ◌+◌, ◌*◌, ◌^◌, ◌<◌, ◌≤◌, ℕ, List, ◌∷◌, Some, IfOk, IfSome, length, option_map};
+ghost use Rattle.std.specs.Prelude.{unwrap_or};
+ghost use Rattle.elf_model.specs.Image.{RelativeAddress, word_addresses};
+ghost use Rattle.elf_model.specs.Prelude.{field};
+ghost use Rattle.elf_model.specs.RelativeRelocations.{base_after};
 ghost use Rattle.elf_source.specs.Prelude.{KeepsSource, SameView};
 ghost use Rattle.elf_table.specs.Prelude.{IsOfCheck};
+ghost use Rattle.elf_table.specs.Cursors.{row_at};
+ghost use Rattle.elf_image.specs.declared.relative_rows.RelativeStep.TheVariants.{Ended};
+ghost use Rattle.elf_image.specs.RelativeRows.{AreRowsOf, TakesAddress, relative_left, word_left};
 ghost use Rattle.elf_image.specs.Within.{RowsAlive, StepsRelativeRows, IsTableWithin, row_steps};
 
 use elf_record::{Cause, u64_at};
@@ -37,15 +44,15 @@ pub(crate) enum RelativeStep {
 pub(crate) struct RelativeRows {
     pub(crate) cursor: Cursor,
     /// The bits that are left of the word that was read last, if it is a bitmap.
-    bits: u64,
+    pub(crate) bits: u64,
     /// How many they are.
     pub(crate) left: u32,
     /// The offset of the word in the file.
-    at: u64,
+    pub(crate) at: u64,
     /// The address of the next bit, if there is one.
     pub(crate) next: Option<u128>,
     /// The lowest address that the next row may have.
-    low: u128,
+    pub(crate) low: u128,
 }
 
 impl RelativeRows {
@@ -73,6 +80,11 @@ impl RelativeRows {
         ensures keeps { KeepsSource src.old.seen src.new.seen }
         ensures alive { IfOk result (λ _. RowsAlive src.old.seen.size self.new) }
         ensures steps { IfOk result (StepsRelativeRows self.old self.new) }
+        ensures takes { (file : List ℕ) → src.old.seen.file ≡ Some file → AreRowsOf file self.old →
+            TakesAddress self.old.low self.new.low (relative_left file self.old)
+            (relative_left file self.new) result }
+        ensures known { (file : List ℕ) → src.old.seen.file ≡ Some file → AreRowsOf file self.old →
+            IfOk result (λ _. AreRowsOf file self.new) }
     {
         if self.left > 0 {
             return self.bit();
@@ -95,6 +107,15 @@ impl RelativeRows {
             address + 504 ≤ 2 ^ 64 + 504 * self.old.cursor.index) →
             IfSome self.new.next (λ address.
             address + 8 * self.new.left ≤ 2 ^ 64 + 504 * self.old.cursor.index) }
+        ensures takes { (index : ℕ) → index + 1 ≡ self.old.cursor.index →
+            TakesAddress self.old.low self.new.low
+            (word_addresses (row_at self.old.cursor.table index) self.old.next
+            (field self.old.cursor.row 0 8)) (word_left self.new) result }
+        ensures goes { IfOk result (λ step. step ≡ Ended → ⊥) }
+        ensures base { IfOk result (λ _.
+            option_map (λ address. address + 8 * self.new.left) self.new.next
+            ≡ base_after self.old.next (field self.old.cursor.row 0 8)) }
+        ensures based { 0 < self.new.left → (address : ℕ) × (self.new.next ≡ Some address) }
     {
         let row = self.cursor.row();
         let word = u64_at(row.bytes, 0);
@@ -120,6 +141,10 @@ impl RelativeRows {
         ensures next { (most : ℕ) → 504 ≤ most →
             IfSome self.old.next (λ address. address + 8 * self.old.left ≤ most) →
             IfSome self.new.next (λ address. address + 8 * self.new.left ≤ most) }
+        ensures after { self.new.next ≡ Some (unwrap_or self.old.next 0 + 8) }
+        ensures takes { TakesAddress self.old.low self.new.low (word_left self.old)
+            (word_left self.new) result }
+        ensures goes { IfOk result (λ step. step ≡ Ended → ⊥) }
     {
         let address = self.next.unwrap_or(0);
         let is_set = self.bits % 2 == 1;
@@ -137,6 +162,10 @@ impl RelativeRows {
         ensures cursor { self.new.cursor ≡ self.old.cursor }
         ensures left { self.new.left ≡ self.old.left }
         ensures next { self.new.next ≡ self.old.next }
+        ensures same { (self.new.bits ≡ self.old.bits) × (self.new.at ≡ self.old.at) }
+        ensures takes { (after : List RelativeAddress) → TakesAddress self.old.low self.new.low
+            (record { word_at = self.old.at; address = Some address } ∷ after) after result }
+        ensures goes { IfOk result (λ step. step ≡ Ended → ⊥) }
     {
         if address > MAX_ADDRESS || address < self.low {
             return refused(self.at, Cause::Relr);

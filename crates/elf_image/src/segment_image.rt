@@ -8,6 +8,7 @@ use crate::changes::{ImageFile, told_relocations};
 use crate::headers::{check_headers, load_image, wanted_segment};
 use crate::image_items::ImageItems;
 use crate::marks::WindowMarks;
+use crate::rela_rows::WindowReach;
 use crate::walk::{ImageWalk, WalkStep};
 use crate::window::{ImageWindow, SegmentBytes};
 use elf_record::{Cause, Phdr, Refusal};
@@ -32,6 +33,8 @@ pub struct ImageRequest<'a> {
 #[derive(Clone, Copy)]
 pub(crate) struct ImageTarget {
     pub(crate) index: u16,
+    /// Its address.
+    pub(crate) first: u64,
     /// Its bytes in the file.
     pub(crate) bytes: SegmentBytes,
     /// The number of its bytes in memory.
@@ -134,6 +137,7 @@ fn target_of(index: u16, header: &Phdr, window: u64, hides: bool) -> ImageTarget
 {
     ImageTarget {
         index,
+        first: header.p_vaddr,
         bytes: SegmentBytes {
             at: header.p_offset,
             size: header.p_filesz,
@@ -158,7 +162,7 @@ fn check<S: Source>(
     ensures { KeepsSource src.old.seen src.new.seen }
 {
     let mut marks = WindowMarks::new();
-    let mut walk = ImageWalk::new(image);
+    let mut walk = ImageWalk::new(image, None);
     'steps: loop {
         match walk.step(src, image)? {
             WalkStep::Stores(change) if change.place.segment == target.index => {
@@ -249,7 +253,7 @@ fn write_window<S: Source, W: Sink>(
 {
     let mut window = read_window(src, target, place.low, bytes)?;
     if place.met {
-        patch_window(src, image, target.index, &mut window)?;
+        patch_window(src, image, target, &mut window)?;
     }
     out.put(window.bytes())?;
     Ok(())
@@ -280,17 +284,18 @@ fn read_window<'w, S: Source>(
 fn patch_window<S: Source>(
     src: &mut Counted<S>,
     image: &ImageFile<'_, '_>,
-    segment: u16,
+    target: &ImageTarget,
     window: &mut ImageWindow<'_>,
 ) -> Result<(), Fault>
     requires { ImageWithin src.old.seen.size image.now }
     ensures { KeepsSource src.old.seen src.new.seen }
 {
     let base = image.base;
-    let mut walk = ImageWalk::new(image);
+    let wanted = Some(window.reach(target.first));
+    let mut walk = ImageWalk::new(image, wanted);
     'steps: loop {
         match walk.step(src, image)? {
-            WalkStep::Stores(change) if change.place.segment == segment => {
+            WalkStep::Stores(change) if change.place.segment == target.index => {
                 window.store(&change, base);
             }
             WalkStep::End => return Ok(()),

@@ -8,6 +8,7 @@ use crate::changes::{EntryResult, ImageFile, PlacedBytes, RelocatedBytes};
 use crate::entries::{EntryStep, OrderedEntries, OrderedEntry};
 use crate::entry::entry_result;
 use crate::place::{HeldRange, checked_place};
+use crate::rela_rows::WindowReach;
 use crate::relative_rows::{RelativeRow, RelativeRows, RelativeStep};
 use elf_source::{Counted, Source};
 use elf_table::Fault;
@@ -22,6 +23,8 @@ pub(crate) struct ImageWalk {
     pub(crate) past_rows: bool,
     /// The segment of the last place.
     last: Option<HeldRange>,
+    /// The window that is wanted: what cannot store into it is passed by.
+    wanted: Option<WindowReach>,
 }
 
 /// A step of the walk.
@@ -38,17 +41,19 @@ pub(crate) enum WalkStep<'a> {
 }
 
 impl ImageWalk {
-    /// Creates a walk before the first relocation of a file.
-    pub(crate) fn new(image: &ImageFile<'_, '_>) -> ImageWalk
+    /// Creates a walk before the first relocation of a file. If a window of a segment is wanted,
+    /// relocations that cannot store into it are passed by; all were checked before.
+    pub(crate) fn new(image: &ImageFile<'_, '_>, wanted: Option<WindowReach>) -> ImageWalk
         ensures { (size : ℕ) → ImageWithin size image.now → WalkAlive size result }
     {
         let rows = RelativeRows::new(image.told.compact);
-        let entries = OrderedEntries::new(image.told.ranges);
+        let entries = OrderedEntries::new(image.told.ranges, wanted);
         ImageWalk {
             rows,
             entries,
             past_rows: false,
             last: None,
+            wanted,
         }
     }
 
@@ -71,6 +76,7 @@ impl ImageWalk {
             return self.entry_step(src, image);
         }
         match self.rows.step(src)? {
+            RelativeStep::Row(row) if self.passes(row.address) => Ok(WalkStep::Nothing),
             RelativeStep::Row(row) => {
                 Ok(WalkStep::Stores(row_change(image, &mut self.last, row)?))
             }
@@ -79,6 +85,14 @@ impl ImageWalk {
                 self.past_rows = true;
                 Ok(WalkStep::Nothing)
             }
+        }
+    }
+
+    /// Returns `true` if a word at an address is not in the window that is wanted.
+    fn passes(&self, address: u64) -> bool {
+        match self.wanted {
+            None => false,
+            Some(reach) => !reach.has(address),
         }
     }
 

@@ -1,11 +1,19 @@
 //! A window of a segment.
-ghost use Rattle.std.specs.Prelude.{◌≡◌, ◌+◌, ◌<◌, ◌≤◌, ◌^◌, length, ℕ};
+ghost use Rattle.std.specs.Prelude.{◌≡◌, ◌+◌, ◌-◌, ◌<◌, ◌≤◌, ◌%◌, ◌^◌, length, min, get_or, ℕ, List, Some, IfOk, OnOk};
 ghost use Rattle.elf_model.specs.Apply.{put};
 ghost use Rattle.elf_model.specs.ApplyLaws.{clipped};
+ghost use Rattle.elf_model.specs.Bytes.{field, little, slice};
 ghost use Rattle.elf_source.specs.Prelude.{KeepsSource};
+ghost use Rattle.elf_table.specs.Ledger.{CallReads, fault_of_result};
+ghost use Rattle.elf_image.specs.SegmentParts.{IsPartOf, IsWindowOf, KeepsEdges, MeetsWord, PutsBytes};
+ghost use Rattle.elf_image.specs.declared.changes.RelocatedBytes.TheVariants.{Based, Value};
+ghost use Rattle.elf_reloc.specs.Types.{patched_bytes};
+ghost use Rattle.elf_reloc.specs.declared.patch.Patch.{Patch};
 
 use crate::changes::{PlacedBytes, RelocatedBytes};
 use crate::image_items::CopyBytes;
+use crate::rela_rows::WindowReach;
+use elf_record::u64_at;
 use elf_source::{Counted, READ_BYTES, Source};
 use elf_table::{Fault, fill};
 
@@ -25,10 +33,10 @@ pub(crate) struct SegmentBytes {
 #[derive(Drop)]
 pub(crate) struct ImageWindow<'w> {
     /// The offset of the window in the segment.
-    low: u64,
-    bytes: &'w mut [u8],
-    before: [u8; EDGE_BYTES],
-    after: [u8; EDGE_BYTES],
+    pub(crate) low: u64,
+    pub(crate) bytes: &'w mut [u8],
+    pub(crate) before: [u8; EDGE_BYTES],
+    pub(crate) after: [u8; EDGE_BYTES],
 }
 
 impl<'w> ImageWindow<'w> {
@@ -44,7 +52,12 @@ impl<'w> ImageWindow<'w> {
     ) -> Result<ImageWindow<'w>, Fault>
         requires within { segment.at + segment.size ≤ src.old.seen.size }
         requires fits { low + length bytes.old < 2 ^ 64 }
-        ensures { KeepsSource src.old.seen src.new.seen }
+        ensures keeps { KeepsSource src.old.seen src.new.seen }
+        ensures costs { CallReads src.old src.new (fault_of_result result)
+            (14 + min (segment.size - low) (length bytes.old)) }
+        ensures shows { (file : List ℕ) → src.old.seen.file ≡ Some file →
+            src.old.seen.size < 2 ^ 64 →
+            IfOk result (IsWindowOf (slice file segment.at segment.size) low) }
     {
         let mut before = [0; EDGE_BYTES];
         let mut after = [0; EDGE_BYTES];
@@ -71,9 +84,27 @@ impl<'w> ImageWindow<'w> {
         self.bytes
     }
 
+    /// Returns the addresses at which at most 16 bytes may be in the window, of a segment at an
+    /// address.
+    pub(crate) fn reach(&self, segment: u64) -> WindowReach {
+        let first = segment.saturating_add(self.low);
+        WindowReach {
+            first: first.saturating_sub(15),
+            last: first.saturating_add(self.bytes.len() as u64),
+        }
+    }
+
     /// Stores the part of what a relocation stores in this segment that falls into the window. A
     /// word to which the base is added has not been stored to before.
-    pub(crate) fn store(&mut self, change: &PlacedBytes<'_>, base: u64) {
+    #[tactic(auto, unfolding(elf_model::specs::Bytes::little))]
+    pub(crate) fn store(&mut self, change: &PlacedBytes<'_>, base: u64)
+        ensures edges { KeepsEdges self.old self.new }
+        ensures based { (whole : List ℕ) → MeetsWord whole self.old change.now.place.offset →
+            change.now.bytes ≡ Based → PutsBytes self.old self.new change.now.place.offset
+            (little 8 ((field whole change.now.place.offset 8 + base) % 2 ^ 64)) }
+        ensures value { (patch : Patch) → change.now.bytes ≡ Value patch →
+            PutsBytes self.old self.new change.now.place.offset (patched_bytes patch) }
+    {
         let offset = change.place.offset;
         match &change.bytes {
             RelocatedBytes::Based => {
@@ -91,17 +122,22 @@ impl<'w> ImageWindow<'w> {
 
     /// Returns the word at an offset of the segment, as it is in the file; 0 if it does not meet
     /// the window.
-    fn word(&self, offset: u64) -> u64 {
+    fn word(&self, offset: u64) -> u64
+        ensures { (base : List ℕ) → MeetsWord base self.now offset → result ≡ field base offset 8 }
+    {
         let mut bytes = [0; 8];
         for i in 0..8 {
             bytes[i] = self.byte(offset.saturating_add(i as u64));
         }
-        u64::from_le_bytes(bytes)
+        u64_at(&bytes, 0)
     }
 
     /// Returns the byte at an offset of the segment; 0 if it is more than 7 bytes away from the
     /// window.
-    fn byte(&self, offset: u64) -> u8 {
+    fn byte(&self, offset: u64) -> u8
+        ensures { (base : List ℕ) (word : ℕ) → MeetsWord base self.now word → word ≤ offset →
+            offset < word + 8 → result ≡ get_or base offset 0 }
+    {
         let high = self.low.saturating_add(self.bytes.len() as u64);
         if offset >= high {
             return byte_in(&self.after, offset - high);
@@ -113,12 +149,17 @@ impl<'w> ImageWindow<'w> {
     }
 
     /// Stores the part of some bytes that falls into the window.
-    fn put(&mut self, offset: u64, bytes: &[u8]) {
+    fn put(&mut self, offset: u64, bytes: &[u8])
+        ensures edges { KeepsEdges self.old self.new }
+        ensures puts { PutsBytes self.old self.new offset bytes.now }
+    {
         put_bytes(self.bytes, self.low, offset, bytes);
     }
 
     /// Stores the part of the bytes of a copied object that falls into the window.
-    fn put_copied(&mut self, offset: u64, bytes: &CopyBytes<'_>) {
+    fn put_copied(&mut self, offset: u64, bytes: &CopyBytes<'_>)
+        ensures { KeepsEdges self.old self.new }
+    {
         for i in 0..bytes.len() {
             self.put(offset.saturating_add(i as u64), &[bytes.byte(i)]);
         }
@@ -144,7 +185,9 @@ fn put_bytes(window: &mut [u8], low: u64, offset: u64, bytes: &[u8])
 }
 
 /// Returns the byte of an index at the edge after a window, 0 for a larger one.
-fn byte_in(edge: &[u8; EDGE_BYTES], index: u64) -> u8 {
+fn byte_in(edge: &[u8; EDGE_BYTES], index: u64) -> u8
+    ensures { index < 7 → result ≡ get_or edge.now index 0 }
+{
     if index >= EDGE_BYTES as u64 {
         return 0;
     }
@@ -155,6 +198,7 @@ fn byte_in(edge: &[u8; EDGE_BYTES], index: u64) -> u8 {
 /// farther away.
 fn byte_before(edge: &[u8; EDGE_BYTES], distance: u64) -> u8
     requires { 0 < distance }
+    ensures { distance ≤ 7 → result ≡ get_or edge.now (7 - distance) 0 }
 {
     if distance > EDGE_BYTES as u64 {
         return 0;
@@ -171,7 +215,11 @@ fn read_part<S: Source>(
 ) -> Result<(), Fault>
     requires { segment.at + segment.size ≤ src.old.seen.size }
     ensures keeps { KeepsSource src.old.seen src.new.seen }
+    ensures costs { CallReads src.old src.new (fault_of_result result)
+        (min (segment.size - low) (length bytes.old)) }
     ensures long { length bytes.new ≡ length bytes.old }
+    ensures read { (file : List ℕ) → src.old.seen.file ≡ Some file → src.old.seen.size < 2 ^ 64 →
+        OnOk result (IsPartOf (slice file segment.at segment.size) low bytes.new) }
 {
     let held = segment.size.saturating_sub(low).min(bytes.len() as u64) as usize;
     if held > 0 {
@@ -185,7 +233,10 @@ fn read_part<S: Source>(
 fn read_bytes<S: Source>(src: &mut Counted<S>, at: u64, bytes: &mut [u8]) -> Result<(), Fault>
     requires { at + length bytes.old ≤ src.old.seen.size }
     ensures keeps { KeepsSource src.old.seen src.new.seen }
+    ensures costs { CallReads src.old src.new (fault_of_result result) (length bytes.old) }
     ensures long { length bytes.new ≡ length bytes.old }
+    ensures read { (file : List ℕ) → src.old.seen.file ≡ Some file → src.old.seen.size < 2 ^ 64 →
+        OnOk result (bytes.new ≡ slice file at (length bytes.old)) }
 {
     let mut done = 0;
     while done < bytes.len() {

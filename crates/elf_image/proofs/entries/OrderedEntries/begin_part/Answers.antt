@@ -1,4 +1,8 @@
+use Rattle.std.proofs.Common.{◌≡◌, arith}
 use Rattle.elf_image.proofs.entries.OrderedEntries.begin_part.Goals as goal
 
-pub returns-clause-within : goal.returns-clause-within
-returns-clause-within c = λ size w. rw c.new-cursor.ensures.table (c.part_of-part.ensures.within size w)
+pub new-rows-requires : goal.new-rows-requires
+new-rows-requires c = (c.part_of-part.ensures.within c.requires.within.0 c.requires.within.1).wide
+
+pub returns-clause-alive : goal.returns-clause-alive
+returns-clause-alive c = λ size w. c.new-rows.ensures.alive size (c.part_of-part.ensures.within size w)

@@ -1,0 +1,11 @@
+use Rattle.std.proofs.Common.{◌≡◌, ◌∙◌, ◌*◌, ◌+◌, ◌≤◌, length, take, ap, arith}
+use Rattle.elf_table.proofs.Paging.{held-front}
+use Rattle.elf_image.proofs.rela_rows.RelaRows.take.Goals as goal
+
+pub returns-clause-taken : goal.returns-clause-taken
+returns-clause-taken c = λ file holds.
+    let a = c.requires.alive.1 in
+    let w = c.args.self.now.window in
+    let place : c.at-at.result ≡ c.args.self.now.table.at + 24 * c.args.self.now.index = c.at-at.ensures.value ∙ a.place in
+    let entry = c.front_entry-entry.ensures file c.at-at.result (ap (take 24) c.front.ensures ∙ (held-front file w 24 c.requires.some holds ∙ rw c.at-at.ensures.value)) in
+    record { place = place; entry = entry.0; addend = entry.1 }
