@@ -45,7 +45,7 @@ ImagesInMemory limits items room window before out end told = MayUseItems limits
 
 -- WHAT A CALLER HAS of the image of a segment, with the given bytes of room and of a window: the
 -- result, as the memory and the numbers have it
-pub record IsImageOf (limits : CallerLimits) (items : CallerImageItems) (room window status : ℕ) (before out : List ℕ) (end : CallEnd) : Type 0 where
+pub record ReturnsImage (limits : CallerLimits) (items : CallerImageItems) (room window status : ℕ) (before out : List ℕ) (end : CallEnd) : Type 0 where
   pub told : CallStatus
   pub images : ImagesInMemory limits items room window before out end told
   pub status_is : IsStatus status end told

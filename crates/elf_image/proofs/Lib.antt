@@ -6,7 +6,6 @@ pub mod PlaceSteps
 pub mod RangeSteps
 pub mod RowSteps
 pub mod RelaRowSteps
-pub mod ItemSteps
 pub mod MarkSteps
 pub mod RelativeSteps
 pub mod SegmentPartSteps

@@ -1,7 +1,7 @@
 //! The exports that write the image of a segment of a file in memory, and what it lacks.
 ghost use Rattle.std.specs.Prelude.{◌≡◌, ◌≤◌, length};
 ghost use Rattle.elf_capi.specs.LentLayouts.{CountsWritten};
-ghost use Rattle.elf_capi.specs.Images.{HasLacking, ImagesInMemory, IsImageOf, ReadsLacking};
+ghost use Rattle.elf_capi.specs.Images.{HasLacking, ImagesInMemory, ReturnsImage, ReadsLacking};
 
 use elf_capi::{
     CallEnd, CallOutcome, CallStatus, CallerImageItems, CallerLimits, ImageInput, LackingInput,
@@ -37,7 +37,7 @@ pub extern "C" fn elfsee_image(
     out: &mut [u8],
     end: &mut CallEnd,
 ) -> u32
-    ensures { IsImageOf limits.now items.now (length room.old) (length window.old)
+    ensures { ReturnsImage limits.now items.now (length room.old) (length window.old)
         result out.old out.new end.new }
 {
     let told = image_in(file, limits, segment, items, room, window, out, end);
