@@ -23,7 +23,7 @@ returns-in_err-word g c =
     let p = err_from_is_err_and c.from_residual.result c.from_residual.ensures.1 in
     rw (p.1, p.2)
     (record {
-      fetches = ListingReads-then {X = Unit {0}} _ _ _ tt (Err c.in_err-word.field-0.0) 0 _ _ (omega arith)
+      fetches = ListingReads-then {X = Unit {0}} _ _ _ (tt {0}) (Err c.in_err-word.field-0.0) 0 _ _ (omega arith)
           (record { same_src = refl; same_out = refl; same_file = refl; same_style = refl }, refl, SpendsAtMost-none _ _ _ _ (omega arith), tt) c.in_err-word.ensures.fetches;
       kept = c.in_err-word.ensures.kept;
       read = λ file held table symbol_at are defined. suffix_unread _ _ _ (c.in_err-word.ensures.read file held);
