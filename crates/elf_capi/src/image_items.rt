@@ -13,7 +13,7 @@ pub struct CallerImageItems<'a> {
     pub copies: &'a [CopyItem<'a>],
     /// 1 if an entry that lacks an item changes nothing, 0 if the image is refused for it.
     pub partial: u32,
-    /// Always 0.
+    /// Ignored.
     pub none: u32,
 }
 

@@ -112,7 +112,7 @@ AS_BYTES = {"elfsee_listing": [("parts", "u16"), ("flags", "u16")], "elfsee_text
 def structs_of_crate():
     """The structs of the crates that C knows, by the names of the header, each with its fields and their types."""
     structs = {}
-    for path in sorted(each for name in ("elf_archive", "elf_capi", "elf_layout", "elf_record", "elf_table")
+    for path in sorted(each for name in ("elf_archive", "elf_capi", "elf_image", "elf_layout", "elf_record", "elf_table")
                        for each in glob.glob(os.path.join(TOP, "crates", name, "src/*.rt"))):
         source = re.sub(r"\s*//[^\n]*", "", read(path))
         for word, body in re.findall(r"#\[repr\(C\)\][^{;]*?\bstruct (\w+)[^{;]*\{(.*?)\n\}", source, re.S):
