@@ -8,7 +8,7 @@ use Rattle.elf_capi.specs.Causes.{cause_number}
 -- causes
 abbrev pub IsNumbered : ℕ → Option Cause → Type 0
 IsNumbered number (Some cause) = cause_number cause ≡ number
-IsNumbered number None = (number ≡ 0) ⊎ (((29 < number) × (number < 32)) ⊎ (37 < number))
+IsNumbered number None = (number ≡ 0) ⊎ (((29 < number) × (number < 32)) ⊎ (42 < number))
 
 -- a word is written to the start of some memory, if it fits, and otherwise nothing is
 abbrev pub PutsFront : List ℕ → List ℕ → List ℕ → ℕ → Type 0
