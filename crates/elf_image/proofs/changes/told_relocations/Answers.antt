@@ -17,8 +17,8 @@ returns-in_err-found-clause-did g c =
 
 pub returns-clause-did : goal.returns-clause-did
 returns-clause-did g c =
-    CallDid-as _ (omega arith) (did_check c.told_by.result c.told_by.ensures.refusal c.in_ok-found.ensures.did) (λ file told costs views.
+    CallDid-as _ (omega arith) (did_check c.relocations_by.result c.relocations_by.ensures.refusal c.in_ok-found.ensures.did) (λ file told costs views.
     let t = told views in (
-      reads_check c.told_by.result c.told_by.ensures.refusal t.0,
-      located_result file (SaysRelocations file (entries_header file)) c.told_by.result t.1.0 (c.told_by.ensures.told file views t.1.1),
+      reads_check c.relocations_by.result c.relocations_by.ensures.refusal t.0,
+      located_result file (SaysRelocations file (entries_header file)) c.relocations_by.result t.1.0 (c.relocations_by.ensures.told file views t.1.1),
     ))

@@ -8,7 +8,7 @@ use Rattle.elf_image.specs.Located.{image_table_checks}
 use Rattle.elf_image.specs.Relocated.{entries_header, row_count}
 use Rattle.elf_image.proofs.TableSteps.{symbol_entry}
 use Rattle.elf_image.proofs.ToldSteps.{has_tables, words_are}
-use Rattle.elf_image.proofs.changes.told_by.Goals as goal
+use Rattle.elf_image.proofs.changes.relocations_by.Goals as goal
 
 pub returns-in_err-tables-clause-told : goal.returns-in_err-tables-clause-told
 returns-in_err-tables-clause-told c = λ file views found.
