@@ -26,8 +26,8 @@ use Rattle.elf_table.specs.declared.fault.Fault.TheVariants.{Refused, Source}
 use Rattle.elf_hash.specs.Prelude.{dynamic_entry_at, tagged_entry}
 use Rattle.elf_hash.specs.declared.dyn_entry.DynEntry.{DynEntry}
 use Rattle.elf_hash.proofs.EntryLaws.{listed_is}
-use Rattle.elf_image.specs.Located.{AreImageRows, AreRowsAt, ChecksThen, IsMapped, located_entry_checks, found_rows, image_table_checks, loaded_addresses, located_checks_of, row_in, symbol_addresses}
-use Rattle.elf_image.specs.Relocated.{AreRelrWords, ReadsAfter, entries_header, is_among_tables, is_holder, relocation_checks, row_count}
+use Rattle.elf_image.specs.Located.{AreImageRows, AreRowsAt, ChecksThen, IsMapped, image_entry_checks, found_rows, image_table_checks, loaded_addresses, located_checks_of, row_in, symbol_addresses}
+use Rattle.elf_image.specs.Relocated.{AreRelrWords, ReadsAfter, entries_header, is_table_holder, is_holder, relocation_checks, row_count}
 use Rattle.elf_image.specs.declared.changes.TableSegments.{TableSegments}
 use Rattle.elf_image.specs.declared.dynamic_rows.ImageRows.{ImageRows}
 use Rattle.elf_image.specs.declared.tables.MappedTable.{MappedTable}
@@ -101,12 +101,12 @@ module _ (file : List ℕ) where
   pub header_at : (index : ℕ) → dynamic_segment_index file ≡ Some index → entries_header file ≡ segment_at file index
   header_at index some = rw (some, entries_header) refl
 
-  no_entry_checks : dynamic_segment_index file ≡ None → located_entry_checks file ≡ []
-  no_entry_checks none = rw (none, located_entry_checks) refl
+  no_entry_checks : dynamic_segment_index file ≡ None → image_entry_checks file ≡ []
+  no_entry_checks none = rw (none, image_entry_checks) refl
 
   entry_checks_at : (index : ℕ) → dynamic_segment_index file ≡ Some index
-      → located_entry_checks file ≡ segment_dynamic_checks file (segment_at file index) ++ repeat_checks file (segment_at file index)
-  entry_checks_at index some = rw (some, located_entry_checks) refl
+      → image_entry_checks file ≡ segment_dynamic_checks file (segment_at file index) ++ repeat_checks file (segment_at file index)
+  entry_checks_at index some = rw (some, image_entry_checks) refl
 
   no_relocation_checks : dynamic_segment_index file ≡ None → relocation_checks file ≡ []
   no_relocation_checks none = rw (none, relocation_checks) refl
@@ -121,10 +121,10 @@ module _ (file : List ℕ) where
   abbrev located_at : (at : ℕ) → List Check
   located_at at = image_table_checks file at ++ linkage_checks file at
 
-  pub all_checks : first_refusal (relocation_checks file) ≡ first_refusal (located_entry_checks file ++ located_checks_of file)
+  pub all_checks : first_refusal (relocation_checks file) ≡ first_refusal (image_entry_checks file ++ located_checks_of file)
   all_checks = go (dynamic_segment_index file) refl
     where
-      go : (index : Option ℕ) → dynamic_segment_index file ≡ index → first_refusal (relocation_checks file) ≡ first_refusal (located_entry_checks file ++ located_checks_of file)
+      go : (index : Option ℕ) → dynamic_segment_index file ≡ index → first_refusal (relocation_checks file) ≡ first_refusal (image_entry_checks file ++ located_checks_of file)
       go None none =
           let located : located_checks_of file ≡ located_at (length file) = ap located_at (no_header none) in
           ap first_refusal (no_relocation_checks none)
@@ -137,43 +137,43 @@ module _ (file : List ℕ) where
           ∙ ap (λ (checks : List Check). first_refusal ((segment_dynamic_checks file at ++ repeat_checks file at) ++ checks)) located)
 
   -- the entries are refused, or what they locate
-  pub entries_fail : {X Y : Type 0} (Is : X → Type 0) (Was : Y → Type 0) (fault : Fault) → ReadsAfter (located_entry_checks file) Is (Err fault) → ReadsAfter (relocation_checks file) Was (Err fault)
-  entries_fail Is Was (Refused refusal) reads = λ other. all_checks ∙ first_refusal-some (located_entry_checks file) (located_checks_of file) refusal (reads other)
+  pub entries_fail : {X Y : Type 0} (Is : X → Type 0) (Was : Y → Type 0) (fault : Fault) → ReadsAfter (image_entry_checks file) Is (Err fault) → ReadsAfter (relocation_checks file) Was (Err fault)
+  entries_fail Is Was (Refused refusal) reads = λ other. all_checks ∙ first_refusal-some (image_entry_checks file) (located_checks_of file) refusal (reads other)
   entries_fail Is Was (Source fault at) reads = tt
 
-  pub located_result : {X : Type 0} (Is : X → Type 0) (result : Result X Fault) → first_refusal (located_entry_checks file) ≡ None → ChecksThen (located_checks_of file) Is result → ReadsAfter (relocation_checks file) Is result
-  located_result Is (Ok x) passes reads = (all_checks ∙ (first_refusal-none (located_entry_checks file) (located_checks_of file) passes ∙ reads.0), reads.1)
-  located_result Is (Err (Refused refusal)) passes reads = λ other. all_checks ∙ (first_refusal-none (located_entry_checks file) (located_checks_of file) passes ∙ reads)
+  pub located_result : {X : Type 0} (Is : X → Type 0) (result : Result X Fault) → first_refusal (image_entry_checks file) ≡ None → ChecksThen (located_checks_of file) Is result → ReadsAfter (relocation_checks file) Is result
+  located_result Is (Ok x) passes reads = (all_checks ∙ (first_refusal-none (image_entry_checks file) (located_checks_of file) passes ∙ reads.0), reads.1)
+  located_result Is (Err (Refused refusal)) passes reads = λ other. all_checks ∙ (first_refusal-none (image_entry_checks file) (located_checks_of file) passes ∙ reads)
   located_result Is (Err (Source fault at)) passes reads = tt
 
   -- the entries of a header
   module _ (index : ℕ) (some : dynamic_segment_index file ≡ Some index) where
-    entry_checks_are : located_entry_checks file ≡ segment_dynamic_checks file (segment_at file index) ++ repeat_checks file (segment_at file index)
+    entry_checks_are : image_entry_checks file ≡ segment_dynamic_checks file (segment_at file index) ++ repeat_checks file (segment_at file index)
     entry_checks_are = entry_checks_at index some
 
-    pub header_refused : {X : Type 0} (Is : X → Type 0) (fault : Fault) → RefusedBy (segment_dynamic_checks file (segment_at file index)) fault → ReadsAfter (located_entry_checks file) Is (Err fault)
+    pub header_refused : {X : Type 0} (Is : X → Type 0) (fault : Fault) → RefusedBy (segment_dynamic_checks file (segment_at file index)) fault → ReadsAfter (image_entry_checks file) Is (Err fault)
     header_refused Is (Refused refusal) r = λ other. ap first_refusal entry_checks_are ∙ first_refusal-some (segment_dynamic_checks file (segment_at file index)) (repeat_checks file (segment_at file index)) refusal r
     header_refused Is (Source fault at) r = tt
 
     module _ (passes : first_refusal (segment_dynamic_checks file (segment_at file index)) ≡ None) where
-      behind : first_refusal (located_entry_checks file) ≡ first_refusal (repeat_checks file (segment_at file index))
+      behind : first_refusal (image_entry_checks file) ≡ first_refusal (repeat_checks file (segment_at file index))
       behind = ap first_refusal entry_checks_are ∙ first_refusal-none (segment_dynamic_checks file (segment_at file index)) (repeat_checks file (segment_at file index)) passes
 
-      pub rows_fail : {X Y : Type 0} (Is : X → Type 0) (Was : Y → Type 0) (fault : Fault) → ReadsAfter (repeat_checks file (segment_at file index)) Is (Err fault) → ReadsAfter (located_entry_checks file) Was (Err fault)
+      pub rows_fail : {X Y : Type 0} (Is : X → Type 0) (Was : Y → Type 0) (fault : Fault) → ReadsAfter (repeat_checks file (segment_at file index)) Is (Err fault) → ReadsAfter (image_entry_checks file) Was (Err fault)
       rows_fail Is Was (Refused refusal) reads = λ other. behind ∙ reads other
       rows_fail Is Was (Source fault at) reads = tt
 
       pub rows_found : (rows : ImageRows) (address : ℕ) → first_refusal (repeat_checks file (segment_at file index)) ≡ None → AreImageRows file (segment_at file index) rows
-          → address ≡ p_vaddr file (segment_at file index) → (first_refusal (located_entry_checks file) ≡ None) × AreRowsAt file (rows, address)
+          → address ≡ p_vaddr file (segment_at file index) → (first_refusal (image_entry_checks file) ≡ None) × AreRowsAt file (rows, address)
       rows_found rows address none are is =
           let here = header_at index some in
           (behind ∙ none, record { rows = subst (λ (at : ℕ). AreImageRows file at rows) (sym here) are; address = is ∙ ap (p_vaddr file) (sym here) })
 
   pub rows_without : (rows : ImageRows) → dynamic_segment_index file ≡ None → rows.count ≡ 0 → ((tag : ℕ) → row_in (found_rows rows) tag ≡ None)
-      → (first_refusal (located_entry_checks file) ≡ None) × AreRowsAt file (rows, 0)
+      → (first_refusal (image_entry_checks file) ≡ None) × AreRowsAt file (rows, 0)
   rows_without rows none count empty =
       let here = no_header none in
-      let passes : first_refusal (located_entry_checks file) ≡ None = ap first_refusal (no_entry_checks none) in
+      let passes : first_refusal (image_entry_checks file) ≡ None = ap first_refusal (no_entry_checks none) in
       (passes, record { rows = subst (λ (at : ℕ). AreImageRows file at rows) (sym here) (empty_rows rows count empty); address = sym (ap (p_vaddr file) here ∙ no_address) })
 
 -- VALUES of entries, as traits have them
@@ -231,7 +231,7 @@ pub among_is : (file : List ℕ) (at segment : ℕ) (tables : TableSegments) →
     → is_holder tables.addends segment ≡ list_any (has_table file segment) (loaded_addresses (rela_table file at))
     → is_holder tables.calls segment ≡ list_any (has_table file segment) (loaded_addresses (linkage_table file at))
     → is_holder tables.symbols segment ≡ list_any (has_table file segment) (symbol_addresses file at)
-    → is_among_tables tables segment ≡ list_any (has_table file segment) (read_addresses file at)
+    → is_table_holder tables segment ≡ list_any (has_table file segment) (read_addresses file at)
 unfolding read_addresses
 among_is file at segment tables compact addends calls symbols =
     let p = has_table file segment in

@@ -53,8 +53,8 @@ pub record AreImageRows (file : List ℕ) (at : ℕ) (rows : ImageRows) : Type 0
   pub count : rows.count ≡ length (image_rows_of file at)
 
 -- the checks of the entries, if there are any
-abbrev pub located_entry_checks : List ℕ → List Check
-located_entry_checks file = elim (dynamic_segment_index file) [
+abbrev pub image_entry_checks : List ℕ → List Check
+image_entry_checks file = elim (dynamic_segment_index file) [
   | None ↦ []
   | Some index ↦ segment_dynamic_checks file (segment_at file index) ++ repeat_checks file (segment_at file index)
 ]

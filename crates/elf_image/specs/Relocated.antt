@@ -88,8 +88,8 @@ is_holder None segment = false
 is_holder (Some holder) segment = holder == segment
 
 -- it is one of those with a table
-abbrev pub is_among_tables : TableSegments → (segment : ℕ) → Bool
-is_among_tables tables segment =
+abbrev pub is_table_holder : TableSegments → (segment : ℕ) → Bool
+is_table_holder tables segment =
     is_holder tables.compact segment
     || (is_holder tables.addends segment || (is_holder tables.calls segment || is_holder tables.symbols segment))
 
@@ -100,7 +100,7 @@ pub record SaysRelocations (file : List ℕ) (at : ℕ) (told : Relocations) : T
   pub ranges : AreEntryRanges file at told.ranges
   pub symbols : HasEntries told → AreEntrySymbols file at told.symbols
   pub rows : told.dynamic ≡ (p_vaddr file at, DYNAMIC_SIZE * length (image_rows_of file at))
-  pub tables : (segment : ℕ) → is_among_tables told.table_segments segment ≡ list_any (has_table file segment) (read_addresses file at)
+  pub tables : (segment : ℕ) → is_table_holder told.table_segments segment ≡ list_any (has_table file segment) (read_addresses file at)
 
 -- the result of reading something after checks: the first check that fails, unless a read failed
 abbrev pub ReadsAfter : {X : Type 0} → List Check → (X → Type 0) → Result X Fault → Type 0
@@ -138,7 +138,7 @@ pub record IsRangeIn (file : List ℕ) (told : Relocations) (range : HeldRange) 
   pub first : range.first ≡ p_vaddr file (segment_at file range.segment)
   pub end : range.end ≡ p_vaddr file (segment_at file range.segment) + p_memsz file (segment_at file range.segment)
   pub permits : range.permits ≡ (told.writes_text || has_bits (p_flags file (segment_at file range.segment)) PF_W)
-  pub table : range.has_table ≡ is_among_tables told.table_segments range.segment
+  pub table : range.has_table ≡ is_table_holder told.table_segments range.segment
 
 -- a segment of a place is one of the file's LOAD segments
 pub record IsHeldRange (image : ImageFile) (range : HeldRange) : Type 0 where

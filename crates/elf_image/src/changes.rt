@@ -12,11 +12,11 @@ ghost use Rattle.elf_table.specs.Prelude.{IsOfCheck, fault_of_result};
 ghost use Rattle.elf_hash.specs.Segments.{entries_asked};
 ghost use Rattle.elf_hash.specs.Entries.{dynamic_entry_at};
 ghost use Rattle.elf_image.specs.Located.{AreImageRows, AreImageTables, AreRowsAt, IsMapped};
-ghost use Rattle.elf_image.specs.Located.{ChecksThen, located_entry_checks, loaded_addresses};
+ghost use Rattle.elf_image.specs.Located.{ChecksThen, image_entry_checks, loaded_addresses};
 ghost use Rattle.elf_image.specs.Located.{located_checks_of, symbol_addresses};
 ghost use Rattle.elf_image.specs.Relocated.{ReadsAfter, ReadsRelocations, SaysRelocations};
 ghost use Rattle.elf_image.specs.Relocated.{entries_header};
-ghost use Rattle.elf_image.specs.Relocated.{is_among_tables, is_holder};
+ghost use Rattle.elf_image.specs.Relocated.{is_table_holder, is_holder};
 ghost use Rattle.elf_image.specs.Within.{RelocationsWithin};
 
 use crate::dynamic_rows::{ImageRows, image_rows, no_rows};
@@ -112,7 +112,7 @@ pub(crate) enum EntryResult<'a> {
 impl TableSegments {
     /// Returns `true` if a segment is one of them.
     pub(crate) fn contains(&self, segment: u16) -> bool
-        ensures { result ≡ is_among_tables self.now segment }
+        ensures { result ≡ is_table_holder self.now segment }
     {
         is_holder(self.compact, segment)
             || is_holder(self.addends, segment)
@@ -170,7 +170,11 @@ pub(crate) fn told_relocations<S: Source>(
 ///
 /// # Errors
 /// Returns the first check that fails: those of [`image_tables`] and of [`entry_ranges`].
-fn relocations_by(view: &ExecutionView<'_>, rows: &ImageRows, address: u64) -> Result<Relocations, Fault>
+fn relocations_by(
+    view: &ExecutionView<'_>,
+    rows: &ImageRows,
+    address: u64,
+) -> Result<Relocations, Fault>
     requires { rows.now.count < 2 ^ 60 }
     ensures within { IfOk result (RelocationsWithin view.now.loaded.size) }
     ensures refusal { IfErr result IsOfCheck }
@@ -201,7 +205,7 @@ fn dynamic_entries<S: Source>(
     ensures did { CallDid src.old src.new (fault_of_result result) src.old.seen.size (λ file.
         HoldsProgramHeaders file view.now.loaded view.now.store.now →
         CallReads src.old src.new (fault_of_result result) (entries_asked file)
-        × ReadsAfter (located_entry_checks file) (AreRowsAt file) result) }
+        × ReadsAfter (image_entry_checks file) (AreRowsAt file) result) }
     ensures few { IfOk result (λ found. found.0.count < 2 ^ 60) }
 {
     let Some(segment) = view.first_segment(PT_DYNAMIC) else {
@@ -238,7 +242,7 @@ fn table_segments(
         HoldsProgramHeaders file view.now.loaded view.now.store.now →
         AreImageTables file at tables.now →
         symbols ≡ option_map (dynamic_entry_at file) (tagged_row file at DT_SYMTAB) →
-        is_among_tables result segment ≡ list_any (has_table file segment) (read_addresses file at) }
+        is_table_holder result segment ≡ list_any (has_table file segment) (read_addresses file at) }
 {
     TableSegments {
         compact: table_segment(view, &tables.compact),

@@ -156,8 +156,8 @@ fn with_row(rows: &ImageRows, row: &Row<'_>, entry: &Dyn) -> ImageRows
     }
 }
 
-/// Returns the entries of a table, with one more after those that were read; `tags` are those of the
-/// address, of the size and of the rows.
+/// Returns the entries of a table, with one more after those that were read; `tags` are those of
+/// the address, of the size and of the rows.
 fn with_table_row(rows: &TableEntries, tags: (u64, u64, u64), at: u64, entry: &Dyn) -> TableEntries
     ensures { (file : List ℕ) → IsDyn file at entry.now → result ≡ record {
       address = first_entry rows.now.address (entry_here file at tags.0);

@@ -137,7 +137,8 @@ pub(crate) fn value_or(row: Option<DynEntry>, value: u64) -> u64
 ///
 /// # Errors
 /// Returns the first check that fails: `Unmapped` at the address's entry without a size; `EntrySize`
-/// there without the size of a row, and at that size if it is another one; those of [`mapped_rows`].
+/// there without the entry of the rows, and at that entry if it has another value; those of
+/// [`mapped_rows`].
 fn checked_mapped_table(
     view: &ExecutionView<'_>,
     rows: &TableEntries,
