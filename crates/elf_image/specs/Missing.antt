@@ -7,7 +7,7 @@ use Rattle.elf_image.specs.declared.missing.MissingEntries.{MissingEntries}
 -- the entries that are left can be read
 pub record IsAliveIn (size : ℕ) (missing : MissingEntries) : Type 0 where
   pub image : ImageWithin size missing.image
-  pub walk : WalkAlive size missing.walk
+  pub walk : WalkAlive size missing.image missing.walk
 
 -- how many steps it may take
 abbrev pub missing_steps : MissingEntries → ℕ

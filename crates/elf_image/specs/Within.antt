@@ -3,6 +3,7 @@ use Rattle.std.specs.Prelude.{ℕ, if◌then◌else◌, ◌≡◌, ◌+◌, ◌-
 use Rattle.elf_model.specs.Prelude.{p_filesz, p_offset}
 use Rattle.elf_table.specs.Prelude.{TableInBounds, TableRange}
 use Rattle.elf_table.specs.Windows.{range_end}
+use Rattle.elf_image.specs.Relocated.{IsHeldRange}
 use Rattle.elf_image.specs.declared.changes.ImageFile.{ImageFile}
 use Rattle.elf_image.specs.declared.changes.Relocations.{Relocations}
 use Rattle.elf_image.specs.declared.entries.EntryStep.{EntryStep}
@@ -88,9 +89,10 @@ StepsOrderedEntries old new Past = Unit {0}
 StepsOrderedEntries old new step = entry_steps new < entry_steps old
 
 -- the walk can go on
-pub record WalkAlive (size : ℕ) (walk : ImageWalk) : Type 0 where
+pub record WalkAlive (size : ℕ) (image : ImageFile) (walk : ImageWalk) : Type 0 where
   pub rows : RowsAlive size walk.rows
   pub entries : EntriesAlive size walk.entries
+  pub last : IfSome walk.last (IsHeldRange image)
 
 abbrev pub walk_steps : ImageWalk → ℕ
 walk_steps walk = row_steps walk.rows + entry_steps walk.entries + (if walk.past_rows then 0 else 1)

@@ -1,6 +1,7 @@
 //! The walk over what a file's relocations change, in the order in which a loader applies them.
-ghost use Rattle.std.specs.Prelude.{◌≡◌, ℕ, IfOk};
+ghost use Rattle.std.specs.Prelude.{◌≡◌, ℕ, IfOk, IfSome};
 ghost use Rattle.elf_source.specs.Prelude.{KeepsSource};
+ghost use Rattle.elf_image.specs.Relocated.{IsHeldRange};
 ghost use Rattle.elf_image.specs.Within.{ImageWithin, StepsImageWalk, WalkAlive};
 ghost use Rattle.elf_image.specs.declared.walk.WalkStep.TheVariants.{End};
 
@@ -44,7 +45,7 @@ impl ImageWalk {
     /// Creates a walk before the first relocation of a file. If a window of a segment is wanted,
     /// relocations that cannot store into it are passed by; all were checked before.
     pub(crate) fn new(image: &ImageFile<'_, '_>, wanted: Option<WindowReach>) -> ImageWalk
-        ensures { (size : ℕ) → ImageWithin size image.now → WalkAlive size result }
+        ensures { (size : ℕ) → ImageWithin size image.now → WalkAlive size image.now result }
     {
         let rows = RelativeRows::new(image.told.compact);
         let entries = OrderedEntries::new(image.told.ranges, wanted);
@@ -67,9 +68,9 @@ impl ImageWalk {
         image: &ImageFile<'_, 'a>,
     ) -> Result<WalkStep<'a>, Fault>
         requires image { ImageWithin src.old.seen.size image.now }
-        requires walk { WalkAlive src.old.seen.size self.old }
+        requires walk { WalkAlive src.old.seen.size image.now self.old }
         ensures keeps { KeepsSource src.old.seen src.new.seen }
-        ensures alive { IfOk result (λ _. WalkAlive src.old.seen.size self.new) }
+        ensures alive { IfOk result (λ _. WalkAlive src.old.seen.size image.now self.new) }
         ensures steps { IfOk result (StepsImageWalk self.old self.new) }
     {
         if self.past_rows {
@@ -103,9 +104,9 @@ impl ImageWalk {
         image: &ImageFile<'_, 'a>,
     ) -> Result<WalkStep<'a>, Fault>
         requires image { ImageWithin src.old.seen.size image.now }
-        requires walk { WalkAlive src.old.seen.size self.old }
+        requires walk { WalkAlive src.old.seen.size image.now self.old }
         ensures keeps { KeepsSource src.old.seen src.new.seen }
-        ensures alive { IfOk result (λ _. WalkAlive src.old.seen.size self.new) }
+        ensures alive { IfOk result (λ _. WalkAlive src.old.seen.size image.now self.new) }
         ensures steps { IfOk result (StepsImageWalk self.old self.new) }
     {
         match self.entries.step(src)? {
@@ -123,7 +124,9 @@ impl ImageWalk {
         ordered: OrderedEntry,
     ) -> Result<WalkStep<'a>, Fault>
         requires image { ImageWithin src.old.seen.size image.now }
+        requires last { IfSome self.old.last (IsHeldRange image.now) }
         ensures keeps { KeepsSource src.old.seen src.new.seen }
+        ensures last { IfSome self.new.last (IsHeldRange image.now) }
         ensures rows { self.new.rows ≡ self.old.rows }
         ensures entries { self.new.entries ≡ self.old.entries }
         ensures past { self.new.past_rows ≡ self.old.past_rows }
@@ -142,7 +145,10 @@ fn row_change<'a>(
     image: &ImageFile<'_, 'a>,
     last: &mut Option<HeldRange>,
     row: RelativeRow,
-) -> Result<PlacedBytes<'a>, Fault> {
+) -> Result<PlacedBytes<'a>, Fault>
+    requires { IfSome last.old (IsHeldRange image.now) }
+    ensures { IfSome last.new (IsHeldRange image.now) }
+{
     let place = checked_place(image, last, row.address, 8, row.at)?;
     Ok(PlacedBytes {
         place,

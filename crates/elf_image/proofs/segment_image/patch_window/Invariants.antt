@@ -6,7 +6,7 @@ use Rattle.elf_image.proofs.segment_image.patch_window.Given as goal
 abbrev pub invariant-steps : goal.invariant-steps
 invariant-steps g l = record {
   keeps : KeepsSource l.fn.src.seen l.src.seen;
-  alive : WalkAlive l.src.seen.size l.walk;
+  alive : WalkAlive l.src.seen.size l.image l.walk;
 }
 
 abbrev pub decreases-steps : goal.decreases-steps
