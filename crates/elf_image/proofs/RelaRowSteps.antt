@@ -1,8 +1,7 @@
 -- A cursor over entries goes on.
-use Rattle.std.proofs.Common.{◌≡◌, ◌∙◌, ℕ, zero, suc, ◌+◌, ◌-◌, ◌*◌, ◌%◌, ◌^◌, ◌<◌, ◌≤◌, List, [], ◌∷◌, Bool, true, false, not, length, take, drop, get_or, min, inl, inr, ap, sym, refl, arith, length-drop, length-take, pow-suc}
+use Rattle.std.proofs.Common.{◌≡◌, ◌∙◌, ℕ, zero, suc, ◌+◌, ◌-◌, ◌*◌, ◌^◌, ◌<◌, ◌≤◌, List, [], ◌∷◌, Bool, true, false, not, length, take, drop, get_or, min, inl, inr, ap, sym, refl, arith, length-drop, length-take, pow-suc}
 use Rattle.std.proofs.lemmas.Bool.{cases_lt}
 use Rattle.elf_model.specs.Bytes.{field, number, slice}
-use Rattle.elf_model.specs.Records.{r_offset, r_type}
 use Rattle.elf_model.proofs.Slices.{field-slice, get_or-slice, slice-slice}
 use Rattle.elf_table.specs.WindowCalls.{Skips}
 use Rattle.elf_table.specs.Windows.{HoldsBytes, HoldsCount, WindowState, range_end}

@@ -1,5 +1,4 @@
-use Rattle.std.proofs.Common.{◌≡◌, ◌∙◌, ◌+◌, ◌^◌, ◌<◌, take, arith}
-use Rattle.elf_model.specs.Bytes.{field, slice}
+use Rattle.std.proofs.Common.{◌∙◌, arith}
 use Rattle.elf_image.proofs.RelaRowSteps.{addend-fits}
 use Rattle.elf_image.proofs.rela_rows.front_entry.Goals as goal
 

@@ -1,4 +1,4 @@
-use Rattle.std.proofs.Common.{◌≡◌, ◌∙◌, ◌+◌, ◌-◌, ◌≤◌, List, ℕ, length, take, drop, ap, sym, refl, arith, length-drop, length-take}
+use Rattle.std.proofs.Common.{◌≡◌, ◌∙◌, ◌+◌, ◌-◌, ◌≤◌, List, ℕ, length, take, drop, ap, arith, length-drop, length-take}
 use borrow.Rule.Slice.PartMut.{put_mid, same_len_mid}
 use Rattle.elf_model.specs.Bytes.{slice}
 use Rattle.elf_table.proofs.LedgerLaws.{CallReads-then}

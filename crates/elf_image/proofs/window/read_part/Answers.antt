@@ -1,4 +1,4 @@
-use Rattle.std.proofs.Common.{◌≡◌, ◌∙◌, ◌+◌, ◌-◌, ◌≤◌, ◌<◌, List, ℕ, ◌++◌, length, take, drop, min, replicate, ap, sym, refl, arith, length-append, length-drop, length-take}
+use Rattle.std.proofs.Common.{◌≡◌, ◌∙◌, ◌+◌, ◌-◌, List, ℕ, ◌++◌, length, take, drop, min, replicate, ap, sym, arith, length-append, length-drop, length-take}
 use Rattle.std.proofs.Math.Seq.{take-append_seam}
 use borrow.Rule.Slice.PartMut.{post_of}
 use Rattle.elf_model.specs.Bytes.{slice}

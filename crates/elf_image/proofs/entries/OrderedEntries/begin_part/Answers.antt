@@ -1,4 +1,3 @@
-use Rattle.std.proofs.Common.{◌≡◌, arith}
 use Rattle.elf_image.proofs.entries.OrderedEntries.begin_part.Goals as goal
 
 pub new-rows-requires : goal.new-rows-requires

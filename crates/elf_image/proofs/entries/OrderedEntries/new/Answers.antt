@@ -1,4 +1,4 @@
-use Rattle.std.proofs.Common.{◌≡◌, ◌∙◌, refl, arith}
+use Rattle.std.proofs.Common.{arith}
 use Rattle.elf_image.proofs.entries.OrderedEntries.new.Goals as goal
 
 pub returns : goal.returns

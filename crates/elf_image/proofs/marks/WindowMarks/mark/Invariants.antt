@@ -1,5 +1,5 @@
 -- The windows before `window` are marked.
-use Rattle.std.proofs.Common.{◌≡◌, ℕ, ◌+◌, ◌-◌, ◌/◌, ◌<◌, ◌≤◌, ◌&&◌, ◌||◌, nat_lt, not, max, get_or, length, false}
+use Rattle.std.proofs.Common.{◌≡◌, ℕ, ◌+◌, ◌-◌, ◌/◌, ◌<◌, ◌≤◌, ◌&&◌, ◌||◌, nat_lt, not, max, get_or, false}
 use Rattle.elf_image.proofs.marks.WindowMarks.mark.Given as goal
 
 abbrev pub invariant-loop-window : goal.invariant-loop-window

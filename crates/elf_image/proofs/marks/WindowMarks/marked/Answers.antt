@@ -1,4 +1,4 @@
-use Rattle.std.proofs.Common.{◌≡◌, ◌∙◌, ◌+◌, ap, sym, arith, true, false}
+use Rattle.std.proofs.Common.{◌≡◌, ◌∙◌, ◌+◌, sym, arith, true, false}
 use Rattle.elf_image.proofs.MarkSteps.{marked-more, marked-none}
 use Rattle.elf_image.proofs.marks.WindowMarks.marked.Goals as goal
 use Rattle.elf_image.proofs.marks.WindowMarks.marked.Goals.{then-is_marked, else-is_marked}

@@ -1,4 +1,4 @@
-use Rattle.std.proofs.Common.{◌≡◌, ◌∙◌, ap, arith}
+use Rattle.std.proofs.Common.{◌∙◌}
 use Rattle.elf_image.proofs.RelaRowSteps.{far-entries, filled}
 use Rattle.elf_image.proofs.rela_rows.RelaRows.next.Goals as goal
 

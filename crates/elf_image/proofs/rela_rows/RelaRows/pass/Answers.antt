@@ -1,4 +1,4 @@
-use Rattle.std.proofs.Common.{◌≡◌, ◌+◌, ◌*◌, ◌^◌, ◌≤◌, ◌<◌, length, arith}
+use Rattle.std.proofs.Common.{arith}
 use Rattle.elf_image.proofs.RelaRowSteps.{passes}
 use Rattle.elf_image.proofs.rela_rows.RelaRows.pass.Goals as goal
 

@@ -1,4 +1,4 @@
-use Rattle.std.proofs.Common.{◌≡◌, ◌∙◌, ◌*◌, ◌+◌, ◌≤◌, length, take, ap, arith}
+use Rattle.std.proofs.Common.{◌≡◌, ◌∙◌, ◌*◌, ◌+◌, take, ap}
 use Rattle.elf_table.proofs.Paging.{held-front}
 use Rattle.elf_image.proofs.rela_rows.RelaRows.take.Goals as goal
 

@@ -1,5 +1,4 @@
-use Rattle.std.proofs.Common.{◌≡◌, ◌∙◌, ◌+◌, ◌-◌, ◌/◌, ◌∷◌, Some, suc, ap, sym, refl, unwrap_or, arith}
-use Rattle.elf_model.specs.Image.{RelativeAddress}
+use Rattle.std.proofs.Common.{◌∙◌, ◌+◌, ◌-◌, ◌/◌, ◌∷◌, Some, ap, sym, refl, arith}
 use Rattle.elf_image.specs.RelativeRows.{bits_left, word_left}
 use Rattle.elf_image.proofs.RelativeSteps.{bits-set, bits-unset, left-as, takes-as}
 use Rattle.elf_image.proofs.relative_rows.RelativeRows.bit.Goals as goal

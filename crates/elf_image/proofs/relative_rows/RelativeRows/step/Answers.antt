@@ -1,10 +1,10 @@
-use Rattle.std.proofs.Common.{◌≡◌, ◌∙◌, ◌+◌, ◌*◌, ◌^◌, ◌++◌, suc, unwrap_or, ap, sym, refl, arith}
+use Rattle.std.proofs.Common.{◌≡◌, ◌∙◌, ◌+◌, ◌*◌, ◌^◌, unwrap_or, ap, sym, refl, arith}
 use Rattle.std.proofs.lemmas.Result.{err_from_is_err_and}
 use Rattle.elf_model.specs.Image.{word_addresses}
 use Rattle.elf_model.specs.Prelude.{field}
 use Rattle.elf_model.specs.Records.{relr_word}
 use Rattle.elf_model.specs.RelativeRelocations.{base_after, bitmap_base}
-use Rattle.elf_table.specs.Cursors.{next_row, row_at}
+use Rattle.elf_table.specs.Cursors.{next_row}
 use Rattle.elf_image.specs.RelativeRows.{AreRowsOf, relative_left, word_left, words_left}
 use Rattle.elf_image.specs.declared.relative_rows.RelativeRows.{RelativeRows}
 use Rattle.elf_image.proofs.RelativeSteps.{base-more, base-next, base-same, no-bits, ok-then, takes-as, takes-more, takes-unread, word-place, word-read, words-next, words-none}

@@ -1,8 +1,8 @@
-use Rattle.std.proofs.Common.{◌≡◌, ◌∙◌, ◌+◌, ◌*◌, ◌/◌, ◌%◌, ◌∷◌, [], None, Some, ap, sym, refl, arith}
-use Rattle.elf_model.specs.Image.{RelativeAddress, word_addresses}
+use Rattle.std.proofs.Common.{◌≡◌, ◌∙◌, ◌∷◌, [], None, Some, ap, sym, refl, arith}
+use Rattle.elf_model.specs.Image.{word_addresses}
 use Rattle.elf_model.specs.Prelude.{field}
 use Rattle.elf_table.specs.Cursors.{row_at}
-use Rattle.elf_image.specs.RelativeRows.{bits_left, word_left}
+use Rattle.elf_image.specs.RelativeRows.{word_left}
 use Rattle.elf_image.proofs.RelativeSteps.{addresses-bits, addresses-even, addresses-none, no-bits, none-if, some-at, some-if, takes-as}
 use Rattle.elf_image.proofs.relative_rows.RelativeRows.word.Goals as goal
 

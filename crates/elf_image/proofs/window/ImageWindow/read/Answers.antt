@@ -1,7 +1,6 @@
-use Rattle.std.proofs.Common.{◌≡◌, ◌∙◌, ◌+◌, ◌-◌, ◌^◌, ◌<◌, ◌≤◌, List, ℕ, [], ◌∷◌, length, take, min, ap, sym, refl, arith, length-take}
+use Rattle.std.proofs.Common.{◌≡◌, ◌∙◌, ◌-◌, List, ℕ, [], ◌∷◌, length, take, min, refl, arith, length-take}
 use borrow.Rule.Slice.PartMut.{post_of}
 use Rattle.elf_model.specs.Bytes.{slice}
-use Rattle.elf_image.specs.SegmentParts.{IsPartOf}
 use Rattle.elf_image.proofs.SegmentPartSteps.{edge-shown}
 use Rattle.elf_image.proofs.window.ImageWindow.read.Goals as goal
 
