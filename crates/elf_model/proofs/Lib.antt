@@ -59,6 +59,7 @@ pub mod SuffixLaws
 pub mod SymbolKinds
 pub mod SameFaults
 pub mod FilterLaws
+pub mod HashedSelection
 pub mod SelectionLaws
 pub mod ChoiceLemmas
 pub mod ValueLaws

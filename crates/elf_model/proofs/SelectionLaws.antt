@@ -13,6 +13,7 @@ use Rattle.elf_model.specs.declared.relocation_tables.RelocationTable.{Relocatio
 use Rattle.elf_model.specs.declared.relocation_tables.RelocationTable.TheVariants.{Jmprel, Rel, Rela, Relr as RelrTable}
 use Rattle.elf_model.specs.declared.place_filters.PlaceFilter.{PlaceFilter}
 use Rattle.elf_model.specs.declared.symbol_filters.SymbolFilter.{SymbolFilter}
+use Rattle.elf_model.proofs.HashedSelection.{by_hash_same}
 use Rattle.elf_model.proofs.SameFaults.{SameFault, after_fault, alike, appended, chosen_fault, each_fault, guarded_fault, line_fault, suffixed_fault, where_fault}
 
 -- THE ROWS OF TABLES in two styles that differ in what is shown alone
@@ -335,31 +336,10 @@ module _ (file : List ℕ) (style : ListingStyle) (rows : RowFilter) (filter : S
   four_same segment at =
       appended (appended (appended (one_table_same segment at RelrTable) (one_table_same segment at Rel)) (one_table_same segment at Rela)) (one_table_same segment at Jmprel)
 
-  hashed_row_same : (segment : ℕ) (strings : List ℕ) (table_at index : ℕ)
-      → SameFault (hashed_symbol_row file selected segment strings table_at index) (hashed_symbol_row file style segment strings table_at index)
-  unfolding hashed_symbol_row
-  hashed_row_same segment strings table_at index =
-      let symbol_at : ℕ = table_at + 24 * index in
-      chosen_fault (class_choice file selected true symbol_at) (class_choice file style true symbol_at) (symbol_prefix style.format style.gnu (e_machine file) file symbol_at segment index) symbol_at
-      (shown_name strings (st_name file symbol_at) style.cap)
-
-  counted_same : (symbols : DynamicSymbols) (count : Result ℕ Refusal) → SameFault (counted_rows file selected symbols count) (counted_rows file style symbols count)
-  unfolding counted_rows
-  counted_same symbols (Err refusal) = alike
-  counted_same symbols (Ok count) =
-      each_fault (hashed_symbol_row file selected symbols.index symbols.strings symbols.place) (hashed_symbol_row file style symbols.index symbols.strings symbols.place) (hashed_row_same symbols.index symbols.strings symbols.place) 0 count
-
-  by_hash_same : (segment at : ℕ) (found : Option (HashStyle × ℕ)) → SameFault (rows_by_hash file selected segment at found) (rows_by_hash file style segment at found)
-  unfolding rows_by_hash hashed_symbol_rows
-  by_hash_same segment at None = alike
-  by_hash_same segment at (Some found) =
-      let tables = segment_lookup_tables file found.0 segment at found.1 in
-      guarded_fault (segment_checks file found.0 at found.1) (counted_same tables.symbols (symbols_hashed file tables))
-
   segment_tables_same : (parts segment at : ℕ) → SameFault (segment_tables file selected parts segment at) (segment_tables file style parts segment at)
   unfolding segment_tables segment_symbol_rows
   segment_tables_same parts segment at =
-      appended (where_fault (has parts SYMBOLS) (by_hash_same segment at (hash_row file at))) (where_fault (has parts RELOCS) (four_same segment at))
+      appended (where_fault (has parts SYMBOLS) (by_hash_same file style rows filter place segment at (hash_row file at))) (where_fault (has parts RELOCS) (four_same segment at))
 
   first_same : (parts : ℕ) (segment : Option ℕ) → SameFault (first_segment_tables file selected parts segment) (first_segment_tables file style parts segment)
   unfolding first_segment_tables
