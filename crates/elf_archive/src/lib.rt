@@ -15,7 +15,12 @@ mod names;
 mod parts;
 mod rows;
 
+pub use cursor::read_header as read_member_header;
+pub use fields::{MEMBER_HEADER_BYTES, is_name_table, padded_end};
 pub use first_fault::find_fault;
 pub use lines::{DEFERRED_LINE_BYTES, end_listed};
 pub use listing::show_archive;
+pub use magic_strings::magic as read_archive_magic;
+pub use member::FileRange;
+pub use names::read_name as read_member_name;
 pub use rows::{MemberPosition, MemberRow, next_member, open_members};
