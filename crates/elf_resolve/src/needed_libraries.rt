@@ -210,7 +210,8 @@ fn open_library<S: Source>(
         as_needed: new.as_needed,
         is_taken: false,
     })?;
-    if let Some(dynamic) = tables.dynamic {
+    let dynamic = tables.dynamic;
+    if let Some(dynamic) = dynamic {
         dynamic.add_needed(&room.strings, libraries)?;
     }
     ask_library(store, tables, room, keys, libraries, library)
@@ -258,7 +259,7 @@ fn ask_library(
     } = room;
     let view = SectionView {
         loaded: tables.loaded,
-        store,
+        store: &*store,
     };
     let Some(known) = libraries.get(library) else {
         return Ok(LibraryEnd::Taken);

@@ -1,18 +1,19 @@
 //! The inputs of a link, and where they are: the files that the arguments of a linker name, and
 //! those of the scripts among them.
 
-use crate::linker_scripts::{SCRIPT_BYTES, ScriptToken, ScriptTokens};
+use crate::input_kinds::{FRONT_BYTES, kind_of, open_regular};
+use crate::link_texts::{LinkTexts, TextPlace};
+use crate::linker_scripts::SCRIPT_BYTES;
 use crate::linker_words::{LinkerWords, WordInput, WordState, WordStep};
-use elf_resolve::{InputKind, InputFiles, LinkInput, LinkPlan, LinkStep, OpenFault};
+use elf_resolve::{InputFiles, InputKind, LinkInput, LinkPlan, LinkStep, OpenFault};
 use elf_source::{FileReader, Source, StreamSource, opened_path};
 use std::alloc::{AllocError, Global};
-use std::fs;
 use std::os::unix::fs::{FileExt, FileTypeExt};
 use std::rt::Files;
-use std::str;
+use std::{fs, str};
 
 /// The directories that are searched for libraries after those of the arguments.
-const SYSTEM: [&str; 9] = [
+pub(crate) const SYSTEM: [&str; 9] = [
     "/usr/local/lib/x86_64-linux-gnu",
     "/lib/x86_64-linux-gnu",
     "/usr/lib/x86_64-linux-gnu",
@@ -24,22 +25,9 @@ const SYSTEM: [&str; 9] = [
     "/usr/lib",
 ];
 
-/// The low byte of the type of a shared library (gABI 4, ELF Header).
-const ET_DYN: u8 = 3;
-
-/// How many bytes of a file are looked at to find its kind.
-const FRONT_BYTES: usize = 20;
-
-/// A text among those of a link.
-#[derive(Clone, Copy)]
-struct TextPlace {
-    start: usize,
-    size: usize,
-}
-
 /// An input that is not looked for yet, or an end of a group.
 #[derive(Clone, Copy)]
-enum PendingStep {
+pub(crate) enum PendingStep {
     Input {
         text: TextPlace,
         is_library: bool,
@@ -60,13 +48,13 @@ enum FoundFile {
 #[derive(Drop)]
 pub struct FoundInputs<'r, 'w, R> {
     rt: &'r R,
-    words: &'r LinkerWords<'w>,
-    texts: Vec<u8>,
+    pub(crate) words: &'r LinkerWords<'w>,
+    pub(crate) texts: LinkTexts,
     paths: Vec<TextPlace>,
-    pending: Vec<PendingStep>,
-    script: [u8; SCRIPT_BYTES],
-    scripts: usize,
-    most: usize,
+    pub(crate) pending: Vec<PendingStep>,
+    pub(crate) script: [u8; SCRIPT_BYTES],
+    pub(crate) scripts: usize,
+    pub(crate) most: usize,
 }
 
 impl<'r, 'w, R: Files> FoundInputs<'r, 'w, R>
@@ -86,7 +74,7 @@ where
         Ok(FoundInputs {
             rt,
             words,
-            texts: Vec::new(alloc),
+            texts: LinkTexts::new(alloc),
             paths: Vec::new(alloc),
             pending: Vec::new(alloc),
             script: [0; SCRIPT_BYTES],
@@ -108,7 +96,10 @@ where
         for step in words.steps.iter().rev() {
             self.add_word(*step)?;
         }
-        while let Some(step) = self.pending.pop() {
+        for _ in 0..u64::MAX {
+            let Some(step) = self.pending.pop() else {
+                break;
+            };
             self.take_step(step, &mut plan)?;
         }
         Ok(plan)
@@ -133,26 +124,13 @@ where
     /// # Errors
     /// Out of memory.
     fn pending_input(&mut self, input: &WordInput<'w>) -> Result<PendingStep, AllocError> {
-        let start = self.texts.len();
-        self.texts.extend_from_slice(input.text.as_bytes())?;
+        let start = self.texts.end();
+        self.texts.push(input.text.as_bytes())?;
         Ok(PendingStep::Input {
-            text: self.text_from(start),
+            text: self.texts.text_from(start),
             is_library: input.is_library,
             state: input.state,
         })
-    }
-
-    /// Returns the text from a place on to the end.
-    fn text_from(&self, start: usize) -> TextPlace {
-        TextPlace {
-            start,
-            size: self.texts.len() - start,
-        }
-    }
-
-    /// Returns a text.
-    fn text(&self, place: TextPlace) -> &[u8] {
-        &self.texts[place.start..place.start + place.size]
     }
 
     /// Makes a pending step.
@@ -208,7 +186,7 @@ where
     ///
     /// # Errors
     /// Out of memory.
-    fn add_input(
+    pub(crate) fn add_input(
         &mut self,
         path: TextPlace,
         kind: InputKind,
@@ -231,22 +209,10 @@ where
     /// # Errors
     /// Out of memory.
     fn library_word(&mut self, name: TextPlace) -> Result<TextPlace, AllocError> {
-        let start = self.texts.len();
-        self.texts.extend_from_slice(b"-l")?;
-        self.append(name)?;
-        Ok(self.text_from(start))
-    }
-
-    /// Appends a text to the texts once more.
-    ///
-    /// # Errors
-    /// Out of memory.
-    fn append(&mut self, place: TextPlace) -> Result<(), AllocError> {
-        for index in place.start..place.start + place.size {
-            let byte = self.texts[index];
-            self.texts.push(byte)?;
-        }
-        Ok(())
+        let start = self.texts.end();
+        self.texts.push(b"-l")?;
+        self.texts.append(name)?;
+        Ok(self.texts.text_from(start))
     }
 
     /// Finds the library of a name in the directories, in order.
@@ -259,8 +225,8 @@ where
         is_static: bool,
     ) -> Result<Option<TextPlace>, AllocError> {
         let words = self.words;
-        for folder in words.folders.iter().chain(SYSTEM.iter()) {
-            let found = self.library_in(folder, name, is_static)?;
+        for directory in words.directories.iter().chain(SYSTEM.iter()) {
+            let found = self.library_in(directory, name, is_static)?;
             if found.is_some() {
                 return Ok(found);
             }
@@ -274,44 +240,40 @@ where
     /// Out of memory.
     fn library_in(
         &mut self,
-        folder: &str,
+        directory: &str,
         name: TextPlace,
         is_static: bool,
     ) -> Result<Option<TextPlace>, AllocError> {
-        if self.text(name).first() == Some(&b':') {
-            let file = TextPlace {
-                start: name.start + 1,
-                size: name.size - 1,
-            };
-            return self.file_in(folder, b"", file, b"");
+        if self.texts.text(name).first() == Some(&b':') {
+            return self.file_in(directory, b"", name.rest(), b"");
         }
         if !is_static {
-            let found = self.file_in(folder, b"lib", name, b".so")?;
+            let found = self.file_in(directory, b"lib", name, b".so")?;
             if found.is_some() {
                 return Ok(found);
             }
         }
-        self.file_in(folder, b"lib", name, b".a")
+        self.file_in(directory, b"lib", name, b".a")
     }
 
     /// Returns the path of a file in a directory, if there is one.
     ///
     /// # Errors
     /// Out of memory.
-    fn file_in(
+    pub(crate) fn file_in(
         &mut self,
-        folder: &str,
+        directory: &str,
         front: &[u8],
         name: TextPlace,
         end: &[u8],
     ) -> Result<Option<TextPlace>, AllocError> {
-        let start = self.texts.len();
-        self.texts.extend_from_slice(folder.as_bytes())?;
-        self.texts.push(b'/')?;
-        self.texts.extend_from_slice(front)?;
-        self.append(name)?;
-        self.texts.extend_from_slice(end)?;
-        let path = self.text_from(start);
+        let start = self.texts.end();
+        self.texts.push(directory.as_bytes())?;
+        self.texts.push(b"/")?;
+        self.texts.push(front)?;
+        self.texts.append(name)?;
+        self.texts.push(end)?;
+        let path = self.texts.text_from(start);
         if self.is_file(path) {
             return Ok(Some(path));
         }
@@ -321,7 +283,7 @@ where
 
     /// Returns `true` if there is a file at a path.
     fn is_file(&self, path: TextPlace) -> bool {
-        let Ok(path) = str::from_utf8(self.text(path)) else {
+        let Ok(path) = str::from_utf8(self.texts.text(path)) else {
             return false;
         };
         match fs::metadata(self.rt, path) {
@@ -355,7 +317,7 @@ where
 
     /// Opens the file at a path.
     fn opened(&self, path: TextPlace) -> Option<StreamSource<FileReader<R::File>>> {
-        let Ok(path) = str::from_utf8(self.text(path)) else {
+        let Ok(path) = str::from_utf8(self.texts.text(path)) else {
             return None;
         };
         match open_regular(self.rt, path) {
@@ -366,7 +328,7 @@ where
 
     /// Returns whether there is something at a path that cannot be opened.
     fn unopened(&self, path: TextPlace) -> FoundFile {
-        let Ok(path) = str::from_utf8(self.text(path)) else {
+        let Ok(path) = str::from_utf8(self.texts.text(path)) else {
             return FoundFile::Missing;
         };
         match fs::metadata(self.rt, path) {
@@ -375,255 +337,12 @@ where
         }
     }
 
-    /// Adds the inputs of the script at a path, which was read, before those that are pending.
-    ///
-    /// # Errors
-    /// Out of memory.
-    fn take_script(
-        &mut self,
-        path: TextPlace,
-        size: usize,
-        state: WordState,
-        plan: &mut LinkPlan,
-    ) -> Result<(), AllocError> {
-        let before = self.pending.len();
-        self.scripts += 1;
-        let script = self.script;
-        let is_good = self.scripts < self.most && self.read_script(&script[..size], path, state)?;
-        if !is_good {
-            self.pending.truncate(before);
-            return self.add_input(path, InputKind::BadScript, state, plan);
-        }
-        self.pending[before..].reverse();
-        Ok(())
-    }
-
-    /// Adds the inputs of a script in their order. Returns whether it has inputs alone.
-    ///
-    /// # Errors
-    /// Out of memory.
-    fn read_script(
-        &mut self,
-        text: &[u8],
-        path: TextPlace,
-        state: WordState,
-    ) -> Result<bool, AllocError> {
-        let mut tokens = ScriptTokens::new(text);
-        while let Some(token) = tokens.next() {
-            match token {
-                ScriptToken::Mark(b';') => {}
-                ScriptToken::Text(b"OUTPUT_FORMAT") => {
-                    if !skip_list(&mut tokens) {
-                        return Ok(false);
-                    }
-                }
-                ScriptToken::Text(b"INPUT") => {
-                    if !self.read_list(&mut tokens, path, state)? {
-                        return Ok(false);
-                    }
-                }
-                ScriptToken::Text(b"GROUP") => {
-                    self.pending.push(PendingStep::Open)?;
-                    if !self.read_list(&mut tokens, path, state)? {
-                        return Ok(false);
-                    }
-                    self.pending.push(PendingStep::Close)?;
-                }
-                _ => return Ok(false),
-            }
-        }
-        Ok(true)
-    }
-
-    /// Adds the inputs of a list in parentheses. Returns whether it is one.
-    ///
-    /// # Errors
-    /// Out of memory.
-    fn read_list(
-        &mut self,
-        tokens: &mut ScriptTokens<'_>,
-        path: TextPlace,
-        state: WordState,
-    ) -> Result<bool, AllocError> {
-        let mut depth = 0;
-        loop {
-            match next_in_list(tokens, &mut depth) {
-                ListPart::Bad => return Ok(false),
-                ListPart::End => return Ok(true),
-                ListPart::Inside => {}
-                ListPart::Item(word) => {
-                    let state = WordState {
-                        as_needed: state.as_needed || depth > 1,
-                        ..state
-                    };
-                    self.add_script_word(word, path, state)?;
-                }
-            }
-        }
-    }
-
-    /// Adds an input of a script.
-    ///
-    /// # Errors
-    /// Out of memory.
-    fn add_script_word(
-        &mut self,
-        word: &[u8],
-        path: TextPlace,
-        state: WordState,
-    ) -> Result<(), AllocError> {
-        let start = self.texts.len();
-        let is_library = word.starts_with(b"-l");
-        if is_library {
-            self.texts.extend_from_slice(&word[2..])?;
-        } else {
-            self.texts.extend_from_slice(word)?;
-        }
-        let text = self.text_from(start);
-        let text = if is_library || word.starts_with(b"/") || self.is_there(text) {
-            text
-        } else {
-            self.placed(text, path)?
-        };
-        self.pending.push(PendingStep::Input {
-            text,
-            is_library,
-            state,
-        })?;
-        Ok(())
-    }
-
-    /// Returns the path of an input of a script in the directories, or beside the script; the input
-    /// itself if there is none.
-    ///
-    /// # Errors
-    /// Out of memory.
-    fn placed(&mut self, name: TextPlace, script: TextPlace) -> Result<TextPlace, AllocError> {
-        let words = self.words;
-        for folder in words.folders.iter().chain(SYSTEM.iter()) {
-            if let Some(path) = self.file_in(folder, b"", name, b"")? {
-                return Ok(path);
-            }
-        }
-        let start = self.texts.len();
-        let folder = folder_size(self.text(script));
-        self.append(TextPlace {
-            start: script.start,
-            size: folder,
-        })?;
-        self.append(name)?;
-        let path = self.text_from(start);
-        if self.is_there(path) { Ok(path) } else { Ok(name) }
-    }
-
     /// Returns `true` if there is anything at a path.
-    fn is_there(&self, path: TextPlace) -> bool {
-        let Ok(path) = str::from_utf8(self.text(path)) else {
+    pub(crate) fn is_there(&self, path: TextPlace) -> bool {
+        let Ok(path) = str::from_utf8(self.texts.text(path)) else {
             return false;
         };
         fs::metadata(self.rt, path).is_ok()
-    }
-}
-
-/// Returns how many bytes of a path its directory has, with the slash after it.
-fn folder_size(path: &[u8]) -> usize {
-    let mut size = path.len();
-    while size > 0 && path[size - 1] != b'/' {
-        size -= 1;
-    }
-    size
-}
-
-/// A part of a list in parentheses.
-enum ListPart<'s> {
-    Item(&'s [u8]),
-    Inside,
-    End,
-    Bad,
-}
-
-/// Returns the next part of a list in parentheses at a depth, which is 0 before the list.
-fn next_in_list<'s>(tokens: &mut ScriptTokens<'s>, depth: &mut usize) -> ListPart<'s> {
-    let Some(token) = tokens.next() else {
-        return ListPart::Bad;
-    };
-    match token {
-        ScriptToken::Open if *depth == 0 => {
-            *depth = 1;
-            ListPart::Inside
-        }
-        ScriptToken::Open => ListPart::Bad,
-        _ if *depth == 0 => ListPart::Bad,
-        ScriptToken::Close => {
-            *depth -= 1;
-            if *depth == 0 {
-                return ListPart::End;
-            }
-            ListPart::Inside
-        }
-        ScriptToken::Mark(_) => ListPart::Inside,
-        ScriptToken::Text(b"AS_NEEDED") => {
-            if !matches!(tokens.next(), Some(ScriptToken::Open)) {
-                return ListPart::Bad;
-            }
-            *depth += 1;
-            ListPart::Inside
-        }
-        ScriptToken::Text(word) => ListPart::Item(word),
-    }
-}
-
-/// Steps over a list in parentheses. Returns whether there is one.
-fn skip_list(tokens: &mut ScriptTokens<'_>) -> bool {
-    let mut depth = 0;
-    loop {
-        match next_in_list(tokens, &mut depth) {
-            ListPart::Bad => return false,
-            ListPart::End => return true,
-            ListPart::Inside | ListPart::Item(_) => {}
-        }
-    }
-}
-
-/// Returns the kind of a file that is no script, by its first bytes.
-fn kind_of(front: &[u8; FRONT_BYTES]) -> Option<InputKind> {
-    if front.starts_with(b"!<arch>\n") || front.starts_with(b"!<thin>\n") {
-        return Some(InputKind::Archive);
-    }
-    if !front.starts_with(b"\x7fELF") {
-        return None;
-    }
-    if front[16] == ET_DYN && front[17] == 0 {
-        return Some(InputKind::Shared);
-    }
-    Some(InputKind::Object)
-}
-
-/// Opens a file that can be read at an offset: no directory, pipe or socket.
-///
-/// # Errors
-/// It cannot be opened, or its length cannot be found.
-fn open_regular<R: Files>(
-    rt: &R,
-    path: &str,
-) -> Result<StreamSource<FileReader<R::File>>, OpenFault>
-where
-    R::File: FileExt,
-{
-    let path = opened_path(path);
-    let Ok(found) = fs::metadata(rt, path) else {
-        return Err(OpenFault::Open);
-    };
-    let kind = found.file_type();
-    if kind.is_dir() || kind.is_fifo() || kind.is_socket() {
-        return Err(OpenFault::Open);
-    }
-    let Ok(file) = fs::open(rt, path) else {
-        return Err(OpenFault::Open);
-    };
-    match StreamSource::over(FileReader::new(file)) {
-        Ok(source) => Ok(source),
-        Err(_) => Err(OpenFault::Read),
     }
 }
 
@@ -634,14 +353,16 @@ where
     type InputSource = StreamSource<FileReader<R::File>>;
 
     fn open(&mut self, input: u32) -> Result<Self::InputSource, OpenFault> {
-        let place = self.paths[input as usize];
-        match str::from_utf8(self.text(place)) {
+        match str::from_utf8(self.path(input)) {
             Ok(path) => open_regular(self.rt, path),
             Err(_) => Err(OpenFault::Open),
         }
     }
 
     fn path(&self, input: u32) -> &[u8] {
-        self.text(self.paths[input as usize])
+        match self.paths.get(input as usize) {
+            Some(place) => self.texts.text(*place),
+            None => &[],
+        }
     }
 }

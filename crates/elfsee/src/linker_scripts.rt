@@ -1,4 +1,5 @@
 //! Linker scripts of inputs alone, as `libc.so` is one.
+ghost use Rattle.std.specs.Prelude.{◌<◌, ◌≤◌, length};
 
 /// The most bytes of a script.
 pub const SCRIPT_BYTES: usize = 4096;
@@ -37,9 +38,8 @@ impl<'s> ScriptTokens<'s> {
             b')' => self.take_byte(ScriptToken::Close),
             b',' | b';' => self.take_byte(ScriptToken::Mark(first)),
             _ => {
-                let size = word_size(self.rest);
-                let word = &self.rest[..size];
-                self.rest = &self.rest[size..];
+                let (word, rest) = self.rest.split_at(word_size(self.rest));
+                self.rest = rest;
                 Some(ScriptToken::Text(word))
             }
         }
@@ -47,13 +47,13 @@ impl<'s> ScriptTokens<'s> {
 
     /// Returns a part of one byte, and steps over it.
     fn take_byte(&mut self, token: ScriptToken<'s>) -> Option<ScriptToken<'s>> {
-        self.rest = &self.rest[1..];
+        self.rest = self.rest.get(1..).unwrap_or(&[]);
         Some(token)
     }
 
     /// Steps over spaces and comments.
     fn skip_spaces(&mut self) {
-        loop {
+        for _ in 0..SCRIPT_BYTES {
             let count = spaces(self.rest);
             self.rest = &self.rest[count..];
             let comment = comment_size(self.rest);
@@ -66,12 +66,15 @@ impl<'s> ScriptTokens<'s> {
 }
 
 /// Returns how many spaces a text begins with.
-fn spaces(text: &[u8]) -> usize {
-    let mut count = 0;
-    while count < text.len() && is_space(text[count]) {
-        count += 1;
+fn spaces(text: &[u8]) -> usize
+    ensures { result ≤ length text.now }
+{
+    for count in 0..text.len() {
+        if !is_space(text[count]) {
+            return count;
+        }
     }
-    count
+    text.len()
 }
 
 /// Returns `true` if a byte is white space.
@@ -80,7 +83,9 @@ fn is_space(byte: u8) -> bool {
 }
 
 /// Returns the size of the comment that a text begins with, or 0.
-fn comment_size(text: &[u8]) -> usize {
+fn comment_size(text: &[u8]) -> usize
+    ensures { result ≤ length text.now }
+{
     if !text.starts_with(b"/*") {
         return 0;
     }
@@ -92,19 +97,22 @@ fn comment_size(text: &[u8]) -> usize {
     0
 }
 
-/// Returns the size of the word that a text begins with, at least 1.
-fn word_size(text: &[u8]) -> usize {
-    let mut size = 1;
-    while size < text.len() && !ends_word(text, size) {
-        size += 1;
+/// Returns the size of the word that a text begins with, at least 1 unless the text is empty.
+fn word_size(text: &[u8]) -> usize
+    ensures { result ≤ length text.now }
+{
+    for size in 1..text.len() {
+        if ends_word(text, size) {
+            return size;
+        }
     }
-    size
+    text.len()
 }
 
 /// Returns `true` if a word ends before a place of a text.
-fn ends_word(text: &[u8], place: usize) -> bool {
+fn ends_word(text: &[u8], place: usize) -> bool
+    requires { place < length text.now }
+{
     let byte = text[place];
-    is_space(byte)
-        || matches!(byte, b'(' | b')' | b',' | b';')
-        || comment_size(&text[place..]) > 0
+    is_space(byte) || matches!(byte, b'(' | b')' | b',' | b';') || comment_size(&text[place..]) > 0
 }

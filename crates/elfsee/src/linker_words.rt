@@ -30,15 +30,7 @@ const PASSED: [&str; 13] = [
 ];
 
 /// Options that change what is linked, and are not known here.
-const UNKNOWN: [&str; 7] = [
-    "r",
-    "T",
-    "wrap",
-    "defsym",
-    "start-lib",
-    "just-symbols",
-    "R",
-];
+const UNKNOWN: [&str; 7] = ["r", "T", "wrap", "defsym", "start-lib", "just-symbols", "R"];
 
 /// The beginnings of long options that may have one hyphen, and begin with the letter of another.
 const LONG: [&str; 13] = [
@@ -96,7 +88,7 @@ pub struct LinkerWords<'w> {
     /// The inputs and the groups, in order.
     pub steps: Vec<WordStep<'w>>,
     /// The directories that are searched, before those of the linker.
-    pub folders: Vec<&'w str>,
+    pub directories: Vec<&'w str>,
     /// The symbols that are asked for.
     pub asked: Vec<&'w str>,
     /// What is made; whether there is a shared library is not known here.
@@ -132,7 +124,7 @@ pub fn read_linker_words<'w>(
 ) -> Result<LinkerWords<'w>, WordFault<'w>> {
     let mut read = LinkerWords {
         steps: Vec::with_capacity(alloc, words.len())?,
-        folders: Vec::with_capacity(alloc, words.len())?,
+        directories: Vec::with_capacity(alloc, words.len())?,
         asked: Vec::with_capacity(alloc, words.len() + 1)?,
         output: OutputKind {
             is_shared: false,
@@ -147,9 +139,13 @@ pub fn read_linker_words<'w>(
         pushed: Vec::with_capacity(alloc, words.len())?,
         groups: 0,
     };
-    let mut place = 0;
-    while place < words.len() {
-        place += read.take(words[place], words.get(place + 1).copied())?;
+    let mut is_value = false;
+    for (place, word) in words.iter().enumerate() {
+        if is_value {
+            is_value = false;
+        } else {
+            is_value = read.take(word, words.get(place + 1).copied())? == 2;
+        }
     }
     read.finish()?;
     Ok(read)
@@ -182,7 +178,7 @@ impl<'w> LinkerWords<'w> {
     /// Out of memory.
     fn is_group(&mut self, word: &str, name: &str) -> Result<bool, WordFault<'w>> {
         if word == "-(" || name == "start-group" {
-            self.groups += 1;
+            self.groups = self.groups.saturating_add(1);
             push(&mut self.steps, WordStep::Open)?;
             return Ok(true);
         }
@@ -234,12 +230,7 @@ impl<'w> LinkerWords<'w> {
     ///
     /// # Errors
     /// Out of memory, or a directory below another root.
-    fn ask(
-        &mut self,
-        letter: char,
-        value: &'w str,
-        word: &'w str,
-    ) -> Result<(), WordFault<'w>> {
+    fn ask(&mut self, letter: char, value: &'w str, word: &'w str) -> Result<(), WordFault<'w>> {
         match letter {
             'l' => self.add(value, true)?,
             'u' => push(&mut self.asked, value)?,
@@ -248,7 +239,7 @@ impl<'w> LinkerWords<'w> {
                 if value.starts_with('=') || value.starts_with("$SYSROOT") {
                     return Err(WordFault::Refused(word));
                 }
-                push(&mut self.folders, value)?;
+                push(&mut self.directories, value)?;
             }
         }
         Ok(())

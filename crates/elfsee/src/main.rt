@@ -3,7 +3,12 @@
 
 mod archives;
 mod images;
+mod input_kinds;
 mod layouts;
+mod link_inputs;
+mod link_texts;
+mod linker_scripts;
+mod linker_words;
 mod lists;
 mod many;
 mod missing_reason;
@@ -11,10 +16,8 @@ mod names;
 mod needs;
 mod needs_of_files;
 mod needs_report;
-mod linker_scripts;
-mod linker_words;
-mod link_inputs;
 mod resolve;
+mod script_inputs;
 mod task_end;
 
 ghost use Rattle.std.specs.Prelude.{◌≡◌, ◌⊎◌, IfErr, IfOk, map, string_bytes};

@@ -7,10 +7,8 @@ use elf_cli::{
     RunEnd, end_run, write_rest,
 };
 use elf_format::{LinePrefix, line_of, show_named};
-use elf_resolve::{
-    LinkCaps, LinkFault, InputFiles, LinkLines, LinkPlan, Resolver, show_link,
-};
 use elf_model::Format;
+use elf_resolve::{InputFiles, LinkCaps, LinkFault, LinkLines, LinkPlan, Resolver, show_link};
 use elf_source::{Out, WriteSink};
 use std::alloc::Global;
 use std::hash::RandomState;
