@@ -98,7 +98,7 @@ fn image_in(
 /// Reads the next entries of a file in memory that lack an item to the start of `out`, as many as
 /// there are and as fit, in the order in which a loader applies them, and adds to `index` how many.
 ///
-/// `index` says how many are passed over: 0 at first. `partial` of the items does not matter. Each
+/// `index` says how many are skipped: 0 at first. `partial` of the items does not matter. Each
 /// call goes through the entries from the first, so a large `out` is best. `room` holds the file's
 /// headers during the call.
 ///

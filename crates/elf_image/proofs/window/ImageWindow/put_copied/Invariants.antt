@@ -1,4 +1,4 @@
--- The window is the same, but for its bytes.
+-- The window is the same, except its bytes.
 use Rattle.elf_image.specs.SegmentParts.{KeepsEdges}
 use Rattle.elf_image.proofs.window.ImageWindow.put_copied.Given as goal
 
