@@ -1,7 +1,10 @@
+pub mod Changes
+pub mod EntryOrder
 pub mod Headers
 pub mod Items
 pub mod Values
 pub mod Within
+pub mod Written
 pub mod Located
 pub mod Missing
 pub mod Relocated
@@ -9,3 +12,5 @@ pub mod Marks
 pub mod RelaRows
 pub mod RelativeRows
 pub mod SegmentParts
+pub mod SegmentWrites
+pub mod ImageWrites

@@ -1,6 +1,14 @@
 //! The relocation entries in the order in which a loader applies them.
-ghost use Rattle.std.specs.Prelude.{◌≡◌, ◌+◌, ◌<◌, ◌≤◌, ℕ, IfOk};
-ghost use Rattle.elf_source.specs.Prelude.{KeepsSource};
+ghost use Rattle.std.specs.Prelude.{◌≡◌, ◌+◌, ◌*◌, ◌<◌, ◌≤◌, nat_lt, ℕ, Bool, false, true, IfErr};
+ghost use Rattle.std.specs.Prelude.{IfOk, List, [], ◌∷◌, Some};
+ghost use Rattle.elf_model.specs.Image.{ImageSource, is_resolved};
+ghost use Rattle.elf_record.specs.Rela.{IsRela};
+ghost use Rattle.elf_table.specs.Prelude.{CallReads, IsOfCheck, fault_of_result};
+ghost use Rattle.elf_image.specs.EntryOrder.{AreOrderedEntries, BeginsPart, HasOrderedEntry, IsNumberedPart, IsPartTable};
+ghost use Rattle.elf_image.specs.EntryOrder.{TakesOrderedEntry, TakesRow, entry_changes_left, entries_reads, is_noted};
+ghost use Rattle.elf_image.specs.EntryOrder.{is_unsupported};
+ghost use Rattle.elf_image.specs.EntryOrder.{part_changes, part_kind, parts_left, range_table};
+ghost use Rattle.elf_image.specs.EntryOrder.{relative_from, symbol_reads, symbols_left};
 ghost use Rattle.elf_image.specs.Within.{EntriesAlive, RelaRowsAlive, RangesWithin, StepsOrderedEntries};
 ghost use Rattle.elf_image.specs.Within.{IsTableWithin, entries_ahead};
 ghost use Rattle.elf_image.specs.declared.entries.EntryStep.TheVariants.{Past};
@@ -61,7 +69,13 @@ pub(crate) struct OrderedEntries {
 impl OrderedEntries {
     /// Creates a cursor before the first entry.
     pub(crate) fn new(ranges: EntryRanges, wanted: Option<WindowReach>) -> OrderedEntries
-        ensures { (size : ℕ) → RangesWithin size ranges → EntriesAlive size result }
+        ensures alive { (size : ℕ) → RangesWithin size ranges → EntriesAlive size result }
+        ensures ranges { result.ranges ≡ ranges }
+        ensures wanted { result.wanted ≡ wanted }
+        ensures begins { (source : ImageSource) →
+            entry_changes_left source result ≡ parts_left source ranges 0 }
+        ensures known { (file : List ℕ) → AreOrderedEntries file result }
+        ensures reads { entries_reads result ≤ 72 * (ranges.first.count + ranges.second.count) }
     {
         let table = Table::new(0, 0, RELOCATION_BYTES);
         OrderedEntries {
@@ -85,9 +99,20 @@ impl OrderedEntries {
     /// should be. Otherwise returns a fault of the read, or the refusal `Budget`.
     pub(crate) fn step<S: Source>(&mut self, src: &mut Counted<S>) -> Result<EntryStep, Fault>
         requires { EntriesAlive src.old.seen.size self.old }
-        ensures keeps { KeepsSource src.old.seen src.new.seen }
+        ensures costs { CallReads src.old src.new (fault_of_result result)
+            (entries_reads self.old) }
+        ensures account { src.new.asked + entries_reads self.new + symbol_reads result
+            ≤ src.old.asked + entries_reads self.old }
         ensures alive { IfOk result (λ _. EntriesAlive src.old.seen.size self.new) }
         ensures steps { IfOk result (StepsOrderedEntries self.old self.new) }
+        ensures ranges { self.new.ranges ≡ self.old.ranges }
+        ensures wanted { self.new.wanted ≡ self.old.wanted }
+        ensures some { IfOk result (HasOrderedEntry self.old.ranges) }
+        ensures takes { (source : ImageSource) → src.old.seen.file ≡ Some source.file →
+            AreOrderedEntries source.file self.old → TakesOrderedEntry source self.old.wanted
+            (entry_changes_left source self.old) (entry_changes_left source self.new) result }
+        ensures known { (file : List ℕ) → src.old.seen.file ≡ Some file →
+            AreOrderedEntries file self.old → IfOk result (λ _. AreOrderedEntries file self.new) }
     {
         if self.rows.is_empty() {
             if self.begun >= 4 {
@@ -106,8 +131,7 @@ impl OrderedEntries {
     fn begin_part(&mut self)
         requires begun { self.old.begun < 4 }
         requires within { (size : ℕ) × RangesWithin size self.old.ranges }
-        ensures ranges { self.new.ranges ≡ self.old.ranges }
-        ensures begun { self.new.begun ≡ self.old.begun + 1 }
+        ensures begins { BeginsPart self.old self.new }
         ensures alive { (size : ℕ) → RangesWithin size self.old.ranges →
             RelaRowsAlive size self.new.rows }
         ensures few { entries_ahead self.new.rows
@@ -126,43 +150,68 @@ impl OrderedEntries {
             IsTableWithin 24 size result.table }
         ensures few { result.table.count
             ≤ self.now.ranges.first.count + self.now.ranges.second.count }
+        ensures kind { IsNumberedPart self.now.ranges.joined number result }
+        ensures table { IsPartTable self.now.ranges self.now.indirect result result.table }
     {
-        let joined = self.ranges.joined;
-        let (second, indirect) = match number {
-            0 => (false, false),
-            1 => (joined, !joined),
-            2 => (!joined, joined),
-            _ => (true, true),
-        };
-        let has_rows = if second {
-            self.indirect.1
-        } else {
-            self.indirect.0
-        };
-        let table = if second {
-            self.ranges.second
-        } else {
-            self.ranges.first
-        };
+        let (second, indirect) = part_kind(self.ranges.joined, number);
+        let noted = self.is_noted(second);
+        if indirect && !noted {
+            return EntryPart {
+                table: Table::new(0, 0, RELOCATION_BYTES),
+                indirect,
+                second,
+            };
+        }
         EntryPart {
-            table: if indirect && !has_rows {
-                Table::new(0, 0, RELOCATION_BYTES)
-            } else {
-                table
-            },
+            table: self.table(second),
             indirect,
             second,
         }
     }
 
+    /// Returns the first table, or the second.
+    fn table(&self, second: bool) -> Table
+        ensures { result ≡ range_table self.now.ranges second }
+    {
+        if second {
+            self.ranges.second
+        } else {
+            self.ranges.first
+        }
+    }
+
+    /// Returns `true` if the first table, or the second, is known to have an entry of
+    /// R_X86_64_IRELATIVE.
+    fn is_noted(&self, second: bool) -> bool
+        ensures { result ≡ is_noted self.now.indirect second }
+    {
+        if second {
+            self.indirect.1
+        } else {
+            self.indirect.0
+        }
+    }
+
     /// Returns `true` if the entry of an index in the part's table is one of those at the start of
     /// the first range that should be of R_X86_64_RELATIVE.
-    fn is_relative(&self, index: u64) -> bool {
+    fn is_relative(&self, index: u64) -> bool
+        ensures { result ≡ nat_lt 0 (relative_from self.now.ranges self.now.part.second index) }
+    {
         if !self.part.second {
             return index < self.ranges.relative;
         }
+        if !self.ranges.joined {
+            return false;
+        }
         let before = u128::from(self.ranges.first.len());
-        self.ranges.joined && before + u128::from(index) < u128::from(self.ranges.relative)
+        before + u128::from(index) < u128::from(self.ranges.relative)
+    }
+
+    /// Returns `true` if an entry of a type should be of R_X86_64_RELATIVE, but is not.
+    fn is_unsupported(&self, index: u64, kind: u32) -> bool
+        ensures { result ≡ is_unsupported self.now.ranges self.now.part.second index kind }
+    {
+        self.is_relative(index) && kind != R_X86_64_RELATIVE
     }
 
     /// Returns the entry that was read, if it belongs to the part.
@@ -170,23 +219,36 @@ impl OrderedEntries {
         ensures rows { self.new.rows ≡ self.old.rows }
         ensures ranges { self.new.ranges ≡ self.old.ranges }
         ensures begun { self.new.begun ≡ self.old.begun }
+        ensures part { self.new.part ≡ self.old.part }
+        ensures wanted { self.new.wanted ≡ self.old.wanted }
+        ensures keeps { (second : Bool) → is_noted self.new.indirect second ≡ false →
+            is_noted self.old.indirect second ≡ false }
+        ensures noted { IfOk result (λ _. (file : List ℕ) → IsRela file row.at row.entry →
+            self.old.part.indirect ≡ false →
+            is_noted self.new.indirect self.old.part.second ≡ false →
+            is_resolved file row.at ≡ false) }
         ensures goes { IfOk result (λ step. step ≡ Past → ⊥) }
+        ensures check { IfErr result IsOfCheck }
+        ensures symbol { symbol_reads result ≤ symbols_left self.old.part.indirect 1 }
+        ensures takes { (source : ImageSource) → IsRela source.file row.at row.entry →
+            TakesRow source row (part_changes source self.old.part.indirect
+            (relative_from self.old.ranges self.old.part.second row.index) (row.at ∷ [])) result }
     {
         let kind = row.entry.kind();
-        if !self.part.indirect && self.is_relative(row.index) && kind != R_X86_64_RELATIVE {
-            return refused(row.at, Cause::Unsupported);
-        }
-        let is_indirect = kind == R_X86_64_IRELATIVE;
-        if is_indirect && !self.part.indirect {
-            self.note_indirect();
-        }
-        if is_indirect != self.part.indirect {
+        if self.part.indirect {
+            if kind == R_X86_64_IRELATIVE {
+                return Ok(row_step(row));
+            }
             return Ok(EntryStep::Nothing);
         }
-        Ok(EntryStep::Entry(OrderedEntry {
-            entry: row.entry,
-            at: row.at,
-        }))
+        if self.is_unsupported(row.index, kind) {
+            return refused(row.at, Cause::Unsupported);
+        }
+        if kind == R_X86_64_IRELATIVE {
+            self.note_indirect();
+            return Ok(EntryStep::Nothing);
+        }
+        Ok(row_step(row))
     }
 
     /// Notes that the table of the part has an entry of R_X86_64_IRELATIVE.
@@ -195,6 +257,10 @@ impl OrderedEntries {
         ensures ranges { self.new.ranges ≡ self.old.ranges }
         ensures begun { self.new.begun ≡ self.old.begun }
         ensures part { self.new.part ≡ self.old.part }
+        ensures wanted { self.new.wanted ≡ self.old.wanted }
+        ensures noted { is_noted self.new.indirect self.old.part.second ≡ true }
+        ensures keeps { (second : Bool) → is_noted self.new.indirect second ≡ false →
+            is_noted self.old.indirect second ≡ false }
     {
         if self.part.second {
             self.indirect.1 = true;
@@ -202,4 +268,27 @@ impl OrderedEntries {
             self.indirect.0 = true;
         }
     }
+}
+
+/// Returns whether the part of a number below 4 is of the second table, and whether it is of the
+/// entries of R_X86_64_IRELATIVE.
+fn part_kind(joined: bool, number: u8) -> (bool, bool)
+    ensures { result ≡ part_kind joined number }
+{
+    match number {
+        0 => (false, false),
+        1 => (joined, !joined),
+        2 => (!joined, joined),
+        _ => (true, true),
+    }
+}
+
+/// Returns the step to an entry.
+fn row_step(row: RelaRow) -> EntryStep
+    ensures { result ≡ EntryStep.Entry (record { entry = row.entry; at = row.at }) }
+{
+    EntryStep::Entry(OrderedEntry {
+        entry: row.entry,
+        at: row.at,
+    })
 }

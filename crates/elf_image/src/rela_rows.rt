@@ -5,7 +5,7 @@ ghost use Rattle.elf_model.specs.Bytes.{slice};
 ghost use Rattle.elf_model.specs.Records.{r_addend};
 ghost use Rattle.elf_record.specs.Rela.{IsRela};
 ghost use Rattle.elf_source.specs.Prelude.{ReadsUpTo};
-ghost use Rattle.elf_table.specs.Faults.{IsReadFault};
+ghost use Rattle.elf_table.specs.Faults.{IsOfRead, IsReadFault};
 ghost use Rattle.elf_table.specs.Windows.{HoldsBytes};
 ghost use Rattle.elf_image.specs.RelaRows.{AreFarRows, IsRelaRow, PassesHeld, PassesRows, TakesRows};
 ghost use Rattle.elf_image.specs.RelaRows.{IsRowFar, is_in_reach};
@@ -102,9 +102,11 @@ impl RelaRows {
         requires some { self.old.index < self.old.table.count }
         ensures reads { ReadsUpTo src.old src.new self.old.window.unread }
         ensures says { IfErr result (IsReadFault src.old src.new self.old.window.unread) }
+        ensures fault { IfErr result IsOfRead }
         ensures account { src.new.asked + self.new.window.unread
             ≤ src.old.asked + self.old.window.unread }
         ensures table { self.new.table ≡ self.old.table }
+        ensures rises { self.old.index ≤ self.new.index }
         ensures alive { IfOk result (λ _. RelaRowsAlive src.old.seen.size self.new) }
         ensures passes { IfOk result (PassesRows self.old self.new wanted) }
         ensures taken { (file : List ℕ) → src.old.seen.file ≡ Some file →
