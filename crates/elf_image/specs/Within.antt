@@ -1,5 +1,5 @@
 -- What a walk may read: tables that lie within a source, and how much of them is left.
-use Rattle.std.specs.Prelude.{ℕ, if◌then◌else◌, ◌≡◌, ◌+◌, ◌-◌, ◌*◌, ◌^◌, ◌<◌, ◌≤◌, List, length, IfSome}
+use Rattle.std.specs.Prelude.{ℕ, if◌then◌else◌, ◌≡◌, ◌+◌, ◌-◌, ◌*◌, ◌^◌, ◌<◌, ◌≤◌, List, length, None, IfSome}
 use Rattle.elf_model.specs.Prelude.{p_filesz, p_offset}
 use Rattle.elf_table.specs.Prelude.{TableInBounds, TableRange}
 use Rattle.elf_table.specs.Windows.{range_end}
@@ -44,6 +44,7 @@ ImageWithin size image = RelocationsWithin size image.told
 
 -- the rows of relative relocations that are left can be read, and their addresses do not wrap
 pub record RowsAlive (size : ℕ) (rows : RelativeRows) : Type 0 where
+  pub unfailed : rows.cursor.failed ≡ None
   pub table : IsTableWithin 8 size rows.cursor.table
   pub few : rows.left ≤ 63
   pub index : rows.cursor.index ≤ 2 ^ 64

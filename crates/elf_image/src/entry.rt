@@ -1,12 +1,14 @@
 //! What a relocation entry changes.
-ghost use Rattle.std.specs.Prelude.{◌≡◌, ◌<◌, ◌^◌, ℕ, List, Some, Err, IfErr, IfSome};
+ghost use Rattle.std.specs.Prelude.{◌≡◌, ◌<◌, ◌^◌, ℕ, List, true, Some, Err, IfErr, IfSome};
 ghost use Rattle.elf_model.specs.Image.{ImageSource, change_by, change_of_type, entry_change};
 ghost use Rattle.elf_model.specs.Image.{is_lack};
 ghost use Rattle.elf_model.specs.ImageValues.{dynamic_symbol_checks, entry_symbol};
+ghost use Rattle.elf_model.specs.ImageValues.{uses_no_symbol};
 ghost use Rattle.elf_model.specs.Records.{r_addend, r_sym};
 ghost use Rattle.elf_record.specs.Rela.{IsRela};
 ghost use Rattle.elf_table.specs.Faults.{IsOfCheck};
 ghost use Rattle.elf_table.specs.Ledger.{CallDid, CallReads, fault_of_result};
+ghost use Rattle.elf_image.specs.Changes.{entry_reads};
 ghost use Rattle.elf_image.specs.Relocated.{AreEntrySymbols, ChangesAs, HasEntries, IsHeldRange};
 ghost use Rattle.elf_image.specs.Relocated.{IsImageOf, ReadsAfter, UsesSymbol};
 ghost use Rattle.elf_image.specs.Values.{IsUsed, IsValueCause};
@@ -40,7 +42,7 @@ pub(crate) fn entry_result<'a, S: Source>(
 ) -> Result<EntryResult<'a>, Fault>
     requires within { ImageWithin src.old.seen.size image.now }
     requires last { IfSome last.old (IsHeldRange image.now) }
-    ensures costs { CallReads src.old src.new (fault_of_result result) 24 }
+    ensures costs { CallReads src.old src.new (fault_of_result result) (entry_reads entry.now) }
     ensures last { IfSome last.new (IsHeldRange image.now) }
     ensures change { (source : ImageSource) → src.old.seen.file ≡ Some source.file →
         IsImageOf source image.now → HasEntries image.now.told →
@@ -96,10 +98,12 @@ fn entry_symbol<S: Source>(
     at: u64,
 ) -> Result<Sym, Fault>
     requires { ImageWithin src.old.seen.size image.now }
-    ensures { CallDid src.old src.new (fault_of_result result) 24 (λ file. (header : ℕ) →
+    ensures did { CallDid src.old src.new (fault_of_result result) 24 (λ file. (header : ℕ) →
         AreEntrySymbols file header image.now.told.symbols → index ≡ r_sym file at →
         ReadsAfter (dynamic_symbol_checks found file header at)
         (IsUsed found file (entry_symbol file header at) index) result) }
+    ensures unused { uses_no_symbol found ≡ true →
+        CallReads src.old src.new (fault_of_result result) 0 }
 {
     if uses_no_symbol(found) {
         return Ok(no_symbol());

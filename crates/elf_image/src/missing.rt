@@ -1,8 +1,14 @@
 //! The entries that lack an item.
-ghost use Rattle.std.specs.Prelude.{IfOk};
+ghost use Rattle.std.specs.Prelude.{◌≡◌, ◌+◌, ◌≤◌, ℕ, List, IfOk, Some};
+ghost use Rattle.elf_model.specs.Image.{ImageSource};
 ghost use Rattle.elf_source.specs.Prelude.{KeepsSource};
+ghost use Rattle.elf_table.specs.Prelude.{CallReads, HoldsProgramHeaders, fault_of_result};
 ghost use Rattle.elf_hash.specs.Loading.{FitsSource};
-ghost use Rattle.elf_image.specs.Missing.{IsAliveIn, StepsMissing};
+ghost use Rattle.elf_hash.specs.Segments.{entries_asked};
+ghost use Rattle.elf_image.specs.Changes.{walk_reads};
+ghost use Rattle.elf_image.specs.Missing.{BeginsMissing, FindsLack, IsAliveIn, IsMissingOf};
+ghost use Rattle.elf_image.specs.Missing.{StepsMissing, opening_checks, some_items};
+ghost use Rattle.elf_image.specs.Relocated.{ReadsAfter};
 
 use crate::changes::{ImageFile, told_relocations};
 use crate::headers::check_headers;
@@ -50,7 +56,14 @@ impl<'v, 'a> MissingEntries<'v, 'a> {
     ) -> Result<MissingEntries<'v, 'a>, Fault>
         requires fits { FitsSource src.old.seen.size store.now loaded }
         ensures keeps { KeepsSource src.old.seen src.new.seen }
+        ensures costs { CallReads src.old src.new (fault_of_result result) src.old.seen.size }
         ensures alive { IfOk result (IsAliveIn src.old.seen.size) }
+        ensures asks { (file : List ℕ) → src.old.seen.file ≡ Some file →
+            HoldsProgramHeaders file loaded store.now →
+            CallReads src.old src.new (fault_of_result result) (entries_asked file) }
+        ensures opens { (file : List ℕ) → src.old.seen.file ≡ Some file →
+            HoldsProgramHeaders file loaded store.now → ReadsAfter (opening_checks file)
+            (BeginsMissing file (some_items items.now)) result }
     {
         let view = ExecutionView { loaded, store };
         check_headers(&view)?;
@@ -73,8 +86,16 @@ impl<'v, 'a> MissingEntries<'v, 'a> {
     pub fn next<S: Source>(&mut self, src: &mut Counted<S>) -> Result<Option<LackingEntry>, Fault>
         requires { IsAliveIn src.old.seen.size self.old }
         ensures keeps { KeepsSource src.old.seen src.new.seen }
+        ensures costs { CallReads src.old src.new (fault_of_result result)
+            (walk_reads self.old.walk) }
+        ensures account { src.new.asked + walk_reads self.new.walk
+            ≤ src.old.asked + walk_reads self.old.walk }
         ensures alive { IfOk result (λ _. IsAliveIn src.old.seen.size self.new) }
         ensures steps { IfOk result (StepsMissing self.old self.new) }
+        ensures finds { (source : ImageSource) → src.old.seen.file ≡ Some source.file →
+            IsMissingOf source self.old → FindsLack source self.old self.new result }
+        ensures known { (source : ImageSource) → src.old.seen.file ≡ Some source.file →
+            IsMissingOf source self.old → IfOk result (λ _. IsMissingOf source self.new) }
     {
         'steps: loop {
             match self.walk.step(src, &self.image)? {

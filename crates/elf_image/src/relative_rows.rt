@@ -1,14 +1,15 @@
 //! The rows of relative relocations.
-ghost use Rattle.std.specs.Prelude.{◌≡◌, ◌+◌, ◌*◌, ◌^◌, ◌<◌, ◌≤◌, ℕ, List, ◌∷◌, Some, IfOk, IfSome, length, option_map};
+ghost use Rattle.std.specs.Prelude.{◌≡◌, ◌+◌, ◌*◌, ◌^◌, ◌<◌, ◌≤◌, ℕ, List, ◌∷◌, Some, IfErr, IfOk, IfSome, length, option_map};
 ghost use Rattle.std.specs.Prelude.{unwrap_or};
 ghost use Rattle.elf_model.specs.Image.{RelativeAddress, word_addresses};
 ghost use Rattle.elf_model.specs.Prelude.{field};
 ghost use Rattle.elf_model.specs.RelativeRelocations.{base_after};
-ghost use Rattle.elf_source.specs.Prelude.{KeepsSource, SameView};
-ghost use Rattle.elf_table.specs.Prelude.{IsOfCheck};
-ghost use Rattle.elf_table.specs.Cursors.{row_at};
+ghost use Rattle.elf_table.specs.Prelude.{CallReads, fault_of_result};
+ghost use Rattle.elf_table.specs.Faults.{IsOfCheck};
+ghost use Rattle.elf_table.specs.Cursors.{row_at, unread_bytes};
+ghost use Rattle.elf_table.specs.Tables.{size_of};
 ghost use Rattle.elf_image.specs.declared.relative_rows.RelativeStep.TheVariants.{Ended};
-ghost use Rattle.elf_image.specs.RelativeRows.{AreRowsOf, TakesAddress, relative_left, word_left};
+ghost use Rattle.elf_image.specs.RelativeRows.{AreRowsOf, TakesAddress, relative_left, word_left, words_left};
 ghost use Rattle.elf_image.specs.Within.{RowsAlive, StepsRelativeRows, IsTableWithin, row_steps};
 
 use elf_record::{Cause, u64_at};
@@ -58,7 +59,12 @@ pub(crate) struct RelativeRows {
 impl RelativeRows {
     /// Creates a cursor before the first row of a table of words of 8 bytes.
     pub(crate) fn new(table: Table) -> RelativeRows
-        ensures { (size : ℕ) → IsTableWithin 8 size table → RowsAlive size result }
+        ensures alive { (size : ℕ) → IsTableWithin 8 size table → RowsAlive size result }
+        ensures low { result.low ≡ 0 }
+        ensures reads { unread_bytes result.cursor ≡ size_of table }
+        ensures known { (file : List ℕ) → AreRowsOf file result }
+        ensures begins { (file : List ℕ) →
+            relative_left file result ≡ words_left file table.at 0 table.count }
     {
         RelativeRows {
             cursor: Cursor::new(table),
@@ -77,7 +83,10 @@ impl RelativeRows {
     /// one that is not at least 8 above the one before it. Otherwise returns a fault of the read.
     pub(crate) fn step<S: Source>(&mut self, src: &mut Counted<S>) -> Result<RelativeStep, Fault>
         requires { RowsAlive src.old.seen.size self.old }
-        ensures keeps { KeepsSource src.old.seen src.new.seen }
+        ensures costs { CallReads src.old src.new (fault_of_result result)
+            (unread_bytes self.old.cursor) }
+        ensures account { src.new.asked + unread_bytes self.new.cursor
+            ≤ src.old.asked + unread_bytes self.old.cursor }
         ensures alive { IfOk result (λ _. RowsAlive src.old.seen.size self.new) }
         ensures steps { IfOk result (StepsRelativeRows self.old self.new) }
         ensures takes { (file : List ℕ) → src.old.seen.file ≡ Some file → AreRowsOf file self.old →
@@ -112,6 +121,7 @@ impl RelativeRows {
             (word_addresses (row_at self.old.cursor.table index) self.old.next
             (field self.old.cursor.row 0 8)) (word_left self.new) result }
         ensures goes { IfOk result (λ step. step ≡ Ended → ⊥) }
+        ensures refusal { IfErr result IsOfCheck }
         ensures base { IfOk result (λ _.
             option_map (λ address. address + 8 * self.new.left) self.new.next
             ≡ base_after self.old.next (field self.old.cursor.row 0 8)) }
@@ -145,6 +155,7 @@ impl RelativeRows {
         ensures takes { TakesAddress self.old.low self.new.low (word_left self.old)
             (word_left self.new) result }
         ensures goes { IfOk result (λ step. step ≡ Ended → ⊥) }
+        ensures refusal { IfErr result IsOfCheck }
     {
         let address = self.next.unwrap_or(0);
         let is_set = self.bits % 2 == 1;
@@ -166,6 +177,7 @@ impl RelativeRows {
         ensures takes { (after : List RelativeAddress) → TakesAddress self.old.low self.new.low
             (record { word_at = self.old.at; address = Some address } ∷ after) after result }
         ensures goes { IfOk result (λ step. step ≡ Ended → ⊥) }
+        ensures refusal { IfErr result IsOfCheck }
     {
         if address > MAX_ADDRESS || address < self.low {
             return refused(self.at, Cause::Relr);

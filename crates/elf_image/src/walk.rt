@@ -1,8 +1,16 @@
 //! The walk over what a file's relocations change, in the order in which a loader applies them.
-ghost use Rattle.std.specs.Prelude.{◌≡◌, ℕ, IfOk, IfSome};
-ghost use Rattle.elf_source.specs.Prelude.{KeepsSource};
-ghost use Rattle.elf_image.specs.Relocated.{IsHeldRange};
+ghost use Rattle.std.specs.Prelude.{◌≡◌, ◌+◌, ◌^◌, ◌<◌, ◌≤◌, ℕ, List, ◌∷◌, Option, IfErr, IfOk, IfSome, Some, true, false};
+ghost use Rattle.elf_model.specs.Image.{ImageChange, ImageSource, entry_change, relocation_changes};
+ghost use Rattle.elf_model.specs.Records.{r_addend};
+ghost use Rattle.elf_record.specs.Rela.{IsRela};
+ghost use Rattle.elf_table.specs.Faults.{IsOfCheck};
+ghost use Rattle.elf_table.specs.Prelude.{CallReads, fault_of_result};
+ghost use Rattle.elf_image.specs.Changes.{AreChangesOf, FindsWord, GoesInTurn, IsUnwanted};
+ghost use Rattle.elf_image.specs.Changes.{StoresGiven, TakesChange, image_changes_left, entry_reads};
+ghost use Rattle.elf_image.specs.Changes.{image_pass, walk_reads};
+ghost use Rattle.elf_image.specs.Relocated.{HasEntries, IsHeldRange, IsImageOf};
 ghost use Rattle.elf_image.specs.Within.{ImageWithin, StepsImageWalk, WalkAlive};
+ghost use Rattle.elf_image.specs.declared.rela_rows.WindowReach.{WindowReach};
 ghost use Rattle.elf_image.specs.declared.walk.WalkStep.TheVariants.{End};
 
 use crate::changes::{EntryResult, ImageFile, PlacedBytes, RelocatedBytes};
@@ -45,7 +53,15 @@ impl ImageWalk {
     /// Creates a walk before the first relocation of a file. If a window of a segment is wanted,
     /// relocations that cannot store into it are passed by; all were checked before.
     pub(crate) fn new(image: &ImageFile<'_, '_>, wanted: Option<WindowReach>) -> ImageWalk
-        ensures { (size : ℕ) → ImageWithin size image.now → WalkAlive size image.now result }
+        ensures alive { (size : ℕ) → ImageWithin size image.now → WalkAlive size image.now result }
+        ensures wanted { result.wanted ≡ wanted }
+        ensures low { (result.past_rows ≡ false) × (result.rows.low ≡ 0) }
+        ensures reads { (size : ℕ) → ImageWithin size image.now →
+            walk_reads result ≤ image_pass image.now }
+        ensures known { (source : ImageSource) → IsImageOf source image.now →
+            AreChangesOf source.file image.now result }
+        ensures begins { (source : ImageSource) → IsImageOf source image.now →
+            image_changes_left source result ≡ relocation_changes source }
     {
         let rows = RelativeRows::new(image.told.compact);
         let entries = OrderedEntries::new(image.told.ranges, wanted);
@@ -69,9 +85,22 @@ impl ImageWalk {
     ) -> Result<WalkStep<'a>, Fault>
         requires image { ImageWithin src.old.seen.size image.now }
         requires walk { WalkAlive src.old.seen.size image.now self.old }
-        ensures keeps { KeepsSource src.old.seen src.new.seen }
+        ensures costs { CallReads src.old src.new (fault_of_result result) (walk_reads self.old) }
+        ensures account { src.new.asked + walk_reads self.new
+            ≤ src.old.asked + walk_reads self.old }
         ensures alive { IfOk result (λ _. WalkAlive src.old.seen.size image.now self.new) }
         ensures steps { IfOk result (StepsImageWalk self.old self.new) }
+        ensures wanted { self.new.wanted ≡ self.old.wanted }
+        ensures takes { (source : ImageSource) → src.old.seen.file ≡ Some source.file →
+            IsImageOf source image.now → AreChangesOf source.file image.now self.old →
+            TakesChange source image.now.leaves self.old.wanted (image_changes_left source self.old)
+            (image_changes_left source self.new) result }
+        ensures turn { (source : ImageSource) → src.old.seen.file ≡ Some source.file →
+            IsImageOf source image.now → AreChangesOf source.file image.now self.old →
+            IfOk result (GoesInTurn source.file self.old self.new) }
+        ensures known { (source : ImageSource) → src.old.seen.file ≡ Some source.file →
+            IsImageOf source image.now → AreChangesOf source.file image.now self.old →
+            IfOk result (λ _. AreChangesOf source.file image.now self.new) }
     {
         if self.past_rows {
             return self.entry_step(src, image);
@@ -90,7 +119,9 @@ impl ImageWalk {
     }
 
     /// Returns `true` if a word at an address is not in the window that is wanted.
-    fn passes(&self, address: u64) -> bool {
+    fn passes(&self, address: u64) -> bool
+        ensures { result ≡ true → IsUnwanted self.now.wanted address }
+    {
         match self.wanted {
             None => false,
             Some(reach) => !reach.has(address),
@@ -105,9 +136,23 @@ impl ImageWalk {
     ) -> Result<WalkStep<'a>, Fault>
         requires image { ImageWithin src.old.seen.size image.now }
         requires walk { WalkAlive src.old.seen.size image.now self.old }
-        ensures keeps { KeepsSource src.old.seen src.new.seen }
+        requires past { self.old.past_rows ≡ true }
+        ensures costs { CallReads src.old src.new (fault_of_result result) (walk_reads self.old) }
+        ensures account { src.new.asked + walk_reads self.new
+            ≤ src.old.asked + walk_reads self.old }
         ensures alive { IfOk result (λ _. WalkAlive src.old.seen.size image.now self.new) }
         ensures steps { IfOk result (StepsImageWalk self.old self.new) }
+        ensures wanted { self.new.wanted ≡ self.old.wanted }
+        ensures takes { (source : ImageSource) → src.old.seen.file ≡ Some source.file →
+            IsImageOf source image.now → AreChangesOf source.file image.now self.old →
+            TakesChange source image.now.leaves self.old.wanted (image_changes_left source self.old)
+            (image_changes_left source self.new) result }
+        ensures turn { (source : ImageSource) → src.old.seen.file ≡ Some source.file →
+            IsImageOf source image.now → AreChangesOf source.file image.now self.old →
+            IfOk result (GoesInTurn source.file self.old self.new) }
+        ensures known { (source : ImageSource) → src.old.seen.file ≡ Some source.file →
+            IsImageOf source image.now → AreChangesOf source.file image.now self.old →
+            IfOk result (λ _. AreChangesOf source.file image.now self.new) }
     {
         match self.entries.step(src)? {
             EntryStep::Past => Ok(WalkStep::End),
@@ -125,12 +170,20 @@ impl ImageWalk {
     ) -> Result<WalkStep<'a>, Fault>
         requires image { ImageWithin src.old.seen.size image.now }
         requires last { IfSome self.old.last (IsHeldRange image.now) }
-        ensures keeps { KeepsSource src.old.seen src.new.seen }
+        ensures costs { CallReads src.old src.new (fault_of_result result)
+            (entry_reads ordered.entry) }
         ensures last { IfSome self.new.last (IsHeldRange image.now) }
         ensures rows { self.new.rows ≡ self.old.rows }
         ensures entries { self.new.entries ≡ self.old.entries }
         ensures past { self.new.past_rows ≡ self.old.past_rows }
+        ensures wanted { self.new.wanted ≡ self.old.wanted }
         ensures goes { IfOk result (λ step. step ≡ End → ⊥) }
+        ensures takes { (source : ImageSource) (window : Option WindowReach)
+            (rest : List ImageChange) → src.old.seen.file ≡ Some source.file →
+            IsImageOf source image.now → HasEntries image.now.told →
+            IsRela source.file ordered.at ordered.entry →
+            r_addend source.file ordered.at < 2 ^ 64 → TakesChange source image.now.leaves window
+            (entry_change source ordered.at ∷ rest) rest result × IfOk result StoresGiven }
     {
         match entry_result(src, image, &mut self.last, &ordered.entry, ordered.at)? {
             EntryResult::Nothing => Ok(WalkStep::Nothing),
@@ -147,7 +200,10 @@ fn row_change<'a>(
     row: RelativeRow,
 ) -> Result<PlacedBytes<'a>, Fault>
     requires { IfSome last.old (IsHeldRange image.now) }
-    ensures { IfSome last.new (IsHeldRange image.now) }
+    ensures last { IfSome last.new (IsHeldRange image.now) }
+    ensures refusal { IfErr result IsOfCheck }
+    ensures found { (source : ImageSource) → IsImageOf source image.now →
+        FindsWord source row result }
 {
     let place = checked_place(image, last, row.address, 8, row.at)?;
     Ok(PlacedBytes {

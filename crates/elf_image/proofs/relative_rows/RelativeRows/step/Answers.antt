@@ -4,18 +4,21 @@ use Rattle.elf_model.specs.Image.{word_addresses}
 use Rattle.elf_model.specs.Prelude.{field}
 use Rattle.elf_model.specs.Records.{relr_word}
 use Rattle.elf_model.specs.RelativeRelocations.{base_after, bitmap_base}
-use Rattle.elf_table.specs.Cursors.{next_row}
+use Rattle.elf_table.specs.Cursors.{next_row, unread_bytes}
 use Rattle.elf_image.specs.RelativeRows.{AreRowsOf, relative_left, word_left, words_left}
 use Rattle.elf_image.specs.declared.relative_rows.RelativeRows.{RelativeRows}
+use Rattle.elf_image.proofs.ReadSteps.{unread_checked}
 use Rattle.elf_image.proofs.RelativeSteps.{base-more, base-next, base-same, no-bits, ok-then, takes-as, takes-more, takes-unread, word-place, word-read, words-next, words-none}
 use Rattle.elf_image.specs.Within.{RowsAlive}
 use Rattle.elf_image.proofs.AliveSteps.{later, ok-of}
+use Rattle.elf_image.proofs.ToldSteps.{reads_check}
 use Rattle.elf_image.proofs.relative_rows.RelativeRows.step.Goals as goal
 
 pub returns-then-self-gt0-clause-alive : goal.returns-then-self-gt0-clause-alive
 returns-then-self-gt0-clause-alive g c =
     let b = c.bit.ensures in
     let alive : RowsAlive c.args.src.now.seen.size c.bit.new.self = record {
+      unfailed = rw b.cursor c.requires.unfailed;
       table = rw b.cursor c.requires.table;
       few = omega arith;
       index = rw b.cursor c.requires.index;
@@ -34,6 +37,7 @@ returns-clause-alive g c =
     let w = c.word.ensures in
     let next = gives.next_index in
     let alive : RowsAlive c.args.src.now.seen.size c.word.new.self = record {
+      unfailed = rw w.cursor gives.still_not_failed;
       table = rw (w.cursor, gives.same_table) c.requires.table;
       few = w.few;
       index = rw w.cursor w.index;
@@ -105,3 +109,23 @@ returns-clause-known g c = λ file held known.
       based = w.based;
       base = rw w.cursor (base ∙ after);
     }) w.base
+
+pub returns-then-self-gt0-clause-costs : goal.returns-then-self-gt0-clause-costs
+returns-then-self-gt0-clause-costs g c = unread_checked c.args.src.now (unread_bytes c.args.self.now.cursor) c.bit.result c.bit.ensures.refusal
+
+pub returns-then-self-gt0-clause-account : goal.returns-then-self-gt0-clause-account
+returns-then-self-gt0-clause-account g c = rw c.bit.ensures.cursor (omega arith)
+
+pub returns-in_err-advance-clause-costs : goal.returns-in_err-advance-clause-costs
+returns-in_err-advance-clause-costs g c =
+    let p = err_from_is_err_and c.from_residual.result c.from_residual.ensures.1 in
+    rw (p.1, p.2) (record { reads = c.in_err-advance.ensures.reads; says = c.in_err-advance.ensures.says c.requires.unfailed })
+
+pub returns-then-not-branch-clause-costs : goal.returns-then-not-branch-clause-costs
+returns-then-not-branch-clause-costs g c = record { reads = c.in_ok-advance.ensures.reads; says = tt }
+
+pub returns-clause-costs : goal.returns-clause-costs
+returns-clause-costs g c = reads_check c.word.result c.word.ensures.refusal (record { reads = c.in_ok-advance.ensures.reads; says = tt })
+
+pub returns-clause-account : goal.returns-clause-account
+returns-clause-account g c = rw c.word.ensures.cursor c.in_ok-advance.ensures.account
