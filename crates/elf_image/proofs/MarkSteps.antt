@@ -1,5 +1,5 @@
 -- Which windows are marked.
-use Rattle.std.proofs.Common.{◌≡◌, ℕ, zero, suc, ◌+◌, ◌-◌, ◌*◌, ◌/◌, ◌^◌, ◌<◌, ◌≤◌, ◌&&◌, ◌||◌, ◌==◌, nat_lt, not, min, max, Bool, false, true, List, [], ◌∷◌, ◌++◌, filter, length, cond, get_or, replicate, ap, sym, ◌∙◌, length-append, refl, arith}
+use Rattle.std.proofs.Common.{◌≡◌, ℕ, zero, suc, ◌+◌, ◌-◌, ◌*◌, ◌/◌, ◌<◌, ◌≤◌, ◌&&◌, ◌||◌, ◌==◌, nat_lt, not, min, max, Bool, false, true, List, [], ◌∷◌, ◌++◌, filter, length, cond, get_or, replicate, ap, sym, ◌∙◌, length-append, refl, arith}
 use Rattle.std.proofs.lemmas.Bool.Decides.{nat_tests}
 use Rattle.std.proofs.lemmas.List.{get_or-replicate}
 use Rattle.std.proofs.Math.Nat.{le-div_iff_mul-le, div-lt_iff_lt-mul}
@@ -16,10 +16,10 @@ same-tests first last window k low high offset end width old a b c d some begun 
 
 -- the marks are those of the windows that bytes meet
 pub marks-meet : (offset width size last window k : ℕ) (old : Bool)
-    → 0 < size → 0 < width → offset + width ≤ 2 ^ 64 → k < 4096
+    → 0 < size → 0 < width → k < 4096
     → last ≡ min ((offset + (width - 1)) / size) 4095 → offset / size ≤ window → window ≤ max (last + 1) (offset / size) → last < window
     → (old || (not (nat_lt k (offset / size)) && nat_lt k window)) ≡ (old || meets_range size k offset width)
-marks-meet offset width size last window k old some wide fits few is begun most past =
+marks-meet offset width size last window k old some wide few is begun most past =
     let before = div-lt_iff_lt-mul {k = size} {x = offset} {y = k + 1} some in
     let after = le-div_iff_mul-le {k = size} {x = k} {y = offset + (width - 1)} some in
     let next : (k + 1) * size ≡ size * k + size = omega arith in

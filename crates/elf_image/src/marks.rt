@@ -1,5 +1,5 @@
 //! Which windows of a segment a place meets.
-ghost use Rattle.std.specs.Prelude.{◌≡◌, ◌+◌, ◌^◌, ◌<◌, ◌≤◌, ◌||◌, ℕ, false};
+ghost use Rattle.std.specs.Prelude.{◌≡◌, ◌<◌, ◌≤◌, ◌||◌, ℕ, false};
 ghost use Rattle.elf_image.specs.Marks.{is_window_marked, marked_windows, meets_range};
 
 /// The number of windows that are marked.
@@ -24,14 +24,15 @@ impl WindowMarks {
     /// Marks the windows of `size` bytes each that `width` bytes at an offset meet.
     pub(crate) fn mark(&mut self, offset: u64, width: u64, size: u64)
         requires { 0 < size }
-        ensures { offset + width ≤ 2 ^ 64 → (k : ℕ) → k < 4096 →
+        ensures { (k : ℕ) → k < 4096 →
             is_window_marked self.new.met k
             ≡ (is_window_marked self.old.met k || meets_range size k offset width) }
     {
         if width == 0 {
             return;
         }
-        let last = (offset.saturating_add(width - 1) / size).min(MARKED_WINDOWS as u64 - 1);
+        let end = u128::from(offset) + u128::from(width - 1);
+        let last = (end / u128::from(size)).min(MARKED_WINDOWS as u128 - 1) as u64;
         let mut window = offset / size;
         while window <= last {
             self.met[window as usize] = true;

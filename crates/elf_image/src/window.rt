@@ -1,14 +1,14 @@
 //! A window of a segment.
-ghost use Rattle.std.specs.Prelude.{◌≡◌, ◌+◌, ◌-◌, ◌<◌, ◌≤◌, ◌%◌, ◌^◌, length, min, get_or, ℕ, List, Some, IfOk, OnOk};
+ghost use Rattle.std.specs.Prelude.{◌≡◌, ◌+◌, ◌-◌, ◌<◌, ◌≤◌, ◌%◌, ◌^◌, length, min, get_or, ℕ, List, Some, IfErr, IfOk, OnOk};
 ghost use Rattle.elf_model.specs.Apply.{put};
 ghost use Rattle.elf_model.specs.ApplyLaws.{clipped};
 ghost use Rattle.elf_model.specs.Bytes.{field, little, slice};
 ghost use Rattle.elf_source.specs.Prelude.{KeepsSource};
-ghost use Rattle.elf_table.specs.Ledger.{CallReads, fault_of_result};
+ghost use Rattle.elf_table.specs.Prelude.{CallReads, IsOfRead, fault_of_result};
+ghost use Rattle.elf_image.specs.Items.{copy_bytes};
 ghost use Rattle.elf_image.specs.SegmentParts.{IsPartOf, IsWindowOf, KeepsEdges, MeetsWord, PutsBytes};
-ghost use Rattle.elf_image.specs.declared.changes.RelocatedBytes.TheVariants.{Based, Value};
-ghost use Rattle.elf_reloc.specs.Types.{patched_bytes};
-ghost use Rattle.elf_reloc.specs.declared.patch.Patch.{Patch};
+ghost use Rattle.elf_image.specs.Values.{IsGiven, stored_as};
+ghost use Rattle.elf_image.specs.declared.changes.RelocatedBytes.TheVariants.{Based};
 
 use crate::changes::{PlacedBytes, RelocatedBytes};
 use crate::image_items::CopyBytes;
@@ -55,6 +55,8 @@ impl<'w> ImageWindow<'w> {
         ensures keeps { KeepsSource src.old.seen src.new.seen }
         ensures costs { CallReads src.old src.new (fault_of_result result)
             (14 + min (segment.size - low) (length bytes.old)) }
+        ensures fault { IfErr result IsOfRead }
+        ensures long { IfOk result (λ window. length window.bytes.now ≡ length bytes.old) }
         ensures shows { (file : List ℕ) → src.old.seen.file ≡ Some file →
             src.old.seen.size < 2 ^ 64 →
             IfOk result (IsWindowOf (slice file segment.at segment.size) low) }
@@ -80,13 +82,20 @@ impl<'w> ImageWindow<'w> {
     }
 
     /// Returns the bytes.
-    pub(crate) fn bytes(&self) -> &[u8] {
+    pub(crate) fn bytes(&self) -> &[u8]
+        ensures { result.now ≡ self.now.bytes.now }
+    {
         self.bytes
     }
 
     /// Returns the addresses at which at most 16 bytes may be in the window, of a segment at an
     /// address.
-    pub(crate) fn reach(&self, segment: u64) -> WindowReach {
+    pub(crate) fn reach(&self, segment: u64) -> WindowReach
+        ensures first { result.first ≡ min (segment + self.now.low) (2 ^ 64 - 1) - 15 }
+        ensures last { result.last
+            ≡ min (min (segment + self.now.low) (2 ^ 64 - 1) + length self.now.bytes.now)
+            (2 ^ 64 - 1) }
+    {
         let first = segment.saturating_add(self.low);
         WindowReach {
             first: first.saturating_sub(15),
@@ -94,16 +103,19 @@ impl<'w> ImageWindow<'w> {
         }
     }
 
-    /// Stores the part of what a relocation stores in this segment that falls into the window. A
-    /// word to which the base is added has not been stored to before.
+    /// Stores the part of what a relocation stores in this segment that falls into the window. The
+    /// base is added to a word as it is in the file: nothing has been stored there before.
     #[tactic(auto, unfolding(elf_model::specs::Bytes::little))]
     pub(crate) fn store(&mut self, change: &PlacedBytes<'_>, base: u64)
         ensures edges { KeepsEdges self.old self.new }
-        ensures based { (whole : List ℕ) → MeetsWord whole self.old change.now.place.offset →
-            change.now.bytes ≡ Based → PutsBytes self.old self.new change.now.place.offset
+        ensures based { (whole : List ℕ) → change.now.bytes ≡ Based →
+            (self.old.low < change.now.place.offset + 8 →
+            change.now.place.offset < self.old.low + length self.old.bytes.now →
+            MeetsWord whole self.old change.now.place.offset) →
+            PutsBytes self.old self.new change.now.place.offset
             (little 8 ((field whole change.now.place.offset 8 + base) % 2 ^ 64)) }
-        ensures value { (patch : Patch) → change.now.bytes ≡ Value patch →
-            PutsBytes self.old self.new change.now.place.offset (patched_bytes patch) }
+        ensures given { IsGiven change.now.bytes → PutsBytes self.old self.new
+            change.now.place.offset (stored_as change.now.bytes) }
     {
         let offset = change.place.offset;
         match &change.bytes {
@@ -158,7 +170,8 @@ impl<'w> ImageWindow<'w> {
 
     /// Stores the part of the bytes of a copied object that falls into the window.
     fn put_copied(&mut self, offset: u64, bytes: &CopyBytes<'_>)
-        ensures { KeepsEdges self.old self.new }
+        ensures edges { KeepsEdges self.old self.new }
+        ensures puts { PutsBytes self.old self.new offset (copy_bytes bytes.now) }
     {
         for i in 0..bytes.len() {
             self.put(offset.saturating_add(i as u64), &[bytes.byte(i)]);
@@ -217,6 +230,7 @@ fn read_part<S: Source>(
     ensures keeps { KeepsSource src.old.seen src.new.seen }
     ensures costs { CallReads src.old src.new (fault_of_result result)
         (min (segment.size - low) (length bytes.old)) }
+    ensures fault { IfErr result IsOfRead }
     ensures long { length bytes.new ≡ length bytes.old }
     ensures read { (file : List ℕ) → src.old.seen.file ≡ Some file → src.old.seen.size < 2 ^ 64 →
         OnOk result (IsPartOf (slice file segment.at segment.size) low bytes.new) }
@@ -234,6 +248,7 @@ fn read_bytes<S: Source>(src: &mut Counted<S>, at: u64, bytes: &mut [u8]) -> Res
     requires { at + length bytes.old ≤ src.old.seen.size }
     ensures keeps { KeepsSource src.old.seen src.new.seen }
     ensures costs { CallReads src.old src.new (fault_of_result result) (length bytes.old) }
+    ensures fault { IfErr result IsOfRead }
     ensures long { length bytes.new ≡ length bytes.old }
     ensures read { (file : List ℕ) → src.old.seen.file ≡ Some file → src.old.seen.size < 2 ^ 64 →
         OnOk result (bytes.new ≡ slice file at (length bytes.old)) }

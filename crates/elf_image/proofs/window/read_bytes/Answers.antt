@@ -1,6 +1,8 @@
 use Rattle.std.proofs.Common.{◌≡◌, ◌∙◌, ◌+◌, ◌-◌, ◌≤◌, List, ℕ, length, take, drop, ap, arith, length-drop, length-take}
+use Rattle.std.proofs.lemmas.Result.{err_from_is_err_and}
 use borrow.Rule.Slice.PartMut.{put_mid, same_len_mid}
 use Rattle.elf_model.specs.Bytes.{slice}
+use Rattle.elf_table.proofs.FaultLaws.{of-read}
 use Rattle.elf_table.proofs.LedgerLaws.{CallReads-then}
 use Rattle.elf_image.proofs.SegmentPartSteps.{piece-read}
 use Rattle.elf_image.proofs.window.read_bytes.Goals as goal
@@ -25,3 +27,8 @@ loop-done-preserved g c =
           piece-read file bytes c.fill.new.out c.args.at done count (done + count - done) known.within (known.read file held small) long
           (c.in_ok-fill.ensures.read file (known.costs.reads.keeps.same_file ∙ held) ∙ (ap (λ a. slice file a (length (take (done + count - done) (drop done bytes)))) here ∙ ap (slice file (c.args.at + done)) part));
     }
+
+pub returns-in_err-fill-clause-fault : goal.returns-in_err-fill-clause-fault
+returns-in_err-fill-clause-fault g c =
+    let p = err_from_is_err_and c.from_residual.result c.from_residual.ensures.1 in
+    rw (p.1, p.2) (of-read _ _ c.in_err-fill.ensures.at)
