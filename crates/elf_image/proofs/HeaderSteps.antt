@@ -41,7 +41,7 @@ loads_stop file index left refusal fails =
     ap first_refusal (loads_next file index left) ∙ first_refusal-some (segment_load_checks file (segment_at file index)) (loads_left file (suc index) left) refusal fails
 
 -- if all pass, each does
-each_passes : (file : List ℕ) (index left more : ℕ) → more < left → first_refusal (loads_left file index left) ≡ None → first_refusal (segment_load_checks file (segment_at file (index + more))) ≡ None
+pub each_passes : (file : List ℕ) (index left more : ℕ) → more < left → first_refusal (loads_left file index left) ≡ None → first_refusal (segment_load_checks file (segment_at file (index + more))) ≡ None
 each_passes file index zero more low passes = absurd (omega (arith, low))
 each_passes file index (suc left) zero low passes =
     let front = passes_front (segment_load_checks file (segment_at file index)) (loads_left file (suc index) left) (sym (ap first_refusal (loads_next file index left)) ∙ passes) in

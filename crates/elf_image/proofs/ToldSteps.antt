@@ -68,7 +68,7 @@ module _ (file : List ℕ) where
   unfolding located_table table_by
   no_table kind = rw (no_row (tags_of kind).address, located_table) refl
 
-  no_loaded : (kind : RelocationTable) → loaded_table file (length file) kind ≡ None
+  pub no_loaded : (kind : RelocationTable) → loaded_table file (length file) kind ≡ None
   unfolding loaded_table
   no_loaded kind = rw (no_table kind, loaded_table) refl
 

@@ -10,7 +10,7 @@ ghost use Rattle.elf_record.specs.Phdr.{IsPhdr};
 ghost use Rattle.elf_table.specs.Prelude.{CallDid, ChecksDecide, HoldsProgramHeaders, IsOfCheck};
 ghost use Rattle.elf_table.specs.Prelude.{fault_of_result};
 ghost use Rattle.elf_hash.specs.Loading.{FitsSource, LoadsShown};
-ghost use Rattle.elf_image.specs.Headers.{refusal_for};
+ghost use Rattle.elf_image.specs.Headers.{IsRefusedFault, refusal_for};
 ghost use Rattle.elf_image.specs.Located.{ChecksThen};
 ghost use Rattle.elf_image.specs.Values.{IsValueCause};
 
@@ -120,6 +120,8 @@ pub(crate) fn wanted_segment(
 ) -> Result<Phdr, Fault>
     ensures within { IfOk result (λ header.
         header.p_offset + header.p_filesz ≤ view.now.loaded.size) }
+    ensures few { IfOk result (λ header. header.p_memsz ≤ most) }
+    ensures refuses { IfErr result IsRefusedFault }
     ensures held { (file : List ℕ) → HoldsProgramHeaders file view.now.loaded view.now.store.now →
         first_refusal (segments_load_checks file) ≡ None →
         ChecksThen (requested_checks file segment most) (IsPhdr file (segment_at file segment))

@@ -1,16 +1,25 @@
 //! The call that writes the image of a segment.
-ghost use Rattle.std.specs.Prelude.{◌≡◌, ◌+◌, ◌<◌, ◌≤◌, ◌^◌, length};
-ghost use Rattle.elf_source.specs.Prelude.{KeepsSource};
+ghost use Rattle.std.specs.Prelude.{◌≡◌, ◌+◌, ◌*◌, ◌<◌, ◌≤◌, ◌++◌, ℕ, IfErr, List, length, None, Some, true};
+ghost use Rattle.elf_model.specs.Checks.{first_refusal, header_checks, load_checks};
+ghost use Rattle.elf_model.specs.Image.{ImageSource, image};
+ghost use Rattle.elf_model.specs.ImageCost.{image_cost};
+ghost use Rattle.elf_model.specs.Records.{e_phnum, e_shnum};
+ghost use Rattle.elf_model.specs.Style.{without_sections};
+ghost use Rattle.elf_table.specs.Prelude.{HoldsProgramHeaders};
 ghost use Rattle.elf_hash.specs.Loading.{FitsSource};
+ghost use Rattle.elf_image.specs.ImageWrites.{HasSource, IsMaskedFile, WritesImage, asked_image};
+ghost use Rattle.elf_image.specs.ImageWrites.{request_items, relocated_bytes, relocated_cost};
+ghost use Rattle.elf_image.specs.ImageWrites.{image_ceiling, relocated_ceiling, windows_met};
 ghost use Rattle.elf_image.specs.Within.{ImageWithin};
+ghost use Rattle.elf_image.specs.Written.{BudgetDecides, StopsImage, windows_cost};
 
 use crate::changes::{ImageFile, told_relocations};
 use crate::headers::{check_headers, load_image, wanted_segment};
 use crate::image_items::ImageItems;
 use crate::marks::WindowMarks;
-use crate::rela_rows::WindowReach;
-use crate::walk::{ImageWalk, WalkStep};
-use crate::window::{ImageWindow, SegmentBytes};
+use crate::passes::check;
+use crate::segment_windows::{ImageTarget, write_segment_windows};
+use crate::window::SegmentBytes;
 use elf_record::{Cause, Phdr, Refusal};
 use elf_source::{Counted, Out, Sink, Source};
 use elf_table::{ExecutionView, Fault, HeaderStore, Loaded, RunFault};
@@ -27,22 +36,6 @@ pub struct ImageRequest<'a> {
     pub leaves: bool,
     /// The largest number of bytes that are written.
     pub most: u64,
-}
-
-/// The segment that is written.
-#[derive(Clone, Copy)]
-pub(crate) struct ImageTarget {
-    pub(crate) index: u16,
-    /// Its address.
-    pub(crate) first: u64,
-    /// Its bytes in the file.
-    pub(crate) bytes: SegmentBytes,
-    /// The number of its bytes in memory.
-    pub(crate) size: u64,
-    /// The number of bytes of a window.
-    pub(crate) window: u64,
-    /// Whether the fields that locate section headers are masked in its bytes.
-    pub(crate) hides: bool,
 }
 
 /// Writes the bytes that a LOAD segment has in memory after a loader has relocated the file. All
@@ -65,7 +58,17 @@ pub fn write_image<S: Source, W: Sink>(
     out: &mut Out<W>,
 ) -> Result<(), RunFault>
     requires { 16 ≤ length window.old }
-    ensures { store.new.slots ≡ store.old.slots }
+    ensures slots { store.new.slots ≡ store.old.slots }
+    ensures writes { (file : List ℕ) → src.old.seen.file ≡ Some file → WritesImage out.old out.new
+        result (image file store.old.slots request.now.segment request.now.most
+        (request_items request.now)) }
+    ensures stops { IfErr result (StopsImage src.old src.new out.new) }
+    ensures cost { (file : List ℕ) → src.old.seen.file ≡ Some file → src.new.asked ≤ src.old.asked
+        + image_cost (without_sections file) request.now.segment (length window.old)
+        (windows_met file (without_sections file) (length window.old) request.now) }
+    ensures bounded { src.new.asked ≤ src.old.asked + image_ceiling src.old.seen.size
+        store.old.slots (length window.old) request.now.most }
+    ensures shows { src.new.hides ≡ src.old.hides }
 {
     let hides = src.hides();
     src.mask_section_headers(true);
@@ -90,8 +93,19 @@ fn write_masked<S: Source, W: Sink>(
     window: &mut [u8],
     out: &mut Out<W>,
 ) -> Result<(), RunFault>
-    requires { 16 ≤ length window.old }
-    ensures { store.new.slots ≡ store.old.slots }
+    requires room { 16 ≤ length window.old }
+    requires masked { src.old.hides ≡ true }
+    ensures slots { store.new.slots ≡ store.old.slots }
+    ensures writes { (whole file : List ℕ) → IsMaskedFile src.old masked.now.hides whole file →
+        e_shnum file ≡ 0 → WritesImage out.old out.new result
+        (asked_image whole file store.old.slots masked.now.request.now) }
+    ensures stops { IfErr result (StopsImage src.old src.new out.new) }
+    ensures cost { (whole file : List ℕ) → IsMaskedFile src.old masked.now.hides whole file →
+        e_shnum file ≡ 0 → src.new.asked ≤ src.old.asked + image_cost file
+        masked.now.request.now.segment (length window.old)
+        (windows_met whole file (length window.old) masked.now.request.now) }
+    ensures bounded { src.new.asked ≤ src.old.asked + image_ceiling src.old.seen.size
+        store.old.slots (length window.old) masked.now.request.now.most }
 {
     let loaded = load_image(src, store)?;
     write_loaded(src, store, loaded, masked, window, out)
@@ -108,6 +122,21 @@ fn write_loaded<S: Source, W: Sink>(
 ) -> Result<(), RunFault>
     requires room { 16 ≤ length window.old }
     requires fits { FitsSource src.old.seen.size store.now loaded }
+    requires masked { src.old.hides ≡ true }
+    ensures writes { (whole file : List ℕ) → IsMaskedFile src.old masked.now.hides whole file →
+        first_refusal (header_checks file ++ load_checks file store.now.slots) ≡ None →
+        HoldsProgramHeaders file loaded store.now → WritesImage out.old out.new result
+        (asked_image whole file store.now.slots masked.now.request.now) }
+    ensures stops { IfErr result (StopsImage src.old src.new out.new) }
+    ensures cost { (whole file : List ℕ) → IsMaskedFile src.old masked.now.hides whole file →
+        first_refusal (header_checks file ++ load_checks file store.now.slots) ≡ None →
+        HoldsProgramHeaders file loaded store.now →
+        64 + 56 * e_phnum file + src.new.asked ≤ src.old.asked + image_cost file
+        masked.now.request.now.segment (length window.old)
+        (windows_met whole file (length window.old) masked.now.request.now) }
+    ensures bounded { src.new.asked ≤ src.old.asked + (src.old.seen.size
+        + relocated_ceiling src.old.seen.size (length window.old)
+        masked.now.request.now.most) }
 {
     let request = masked.request;
     let view = ExecutionView { loaded, store };
@@ -122,9 +151,33 @@ fn write_loaded<S: Source, W: Sink>(
         told,
     };
     let target = target_of(request.segment, &header, window.len() as u64, masked.hides);
-    let marks = check(src, &image, &target)?;
-    check_budget(src, &image, &target, &marks)?;
-    write_segment_windows(src, &image, &target, &marks, window, out)
+    write_relocated(src, &image, &target, window, out)
+}
+
+/// Checks the relocations of a file whose headers are checked, and writes a segment with them.
+fn write_relocated<S: Source, W: Sink>(
+    src: &mut Counted<S>,
+    image: &ImageFile<'_, '_>,
+    target: &ImageTarget,
+    window: &mut [u8],
+    out: &mut Out<W>,
+) -> Result<(), RunFault>
+    requires image { ImageWithin src.old.seen.size image.now }
+    requires within { target.now.bytes.at + target.now.bytes.size ≤ src.old.seen.size }
+    requires some { 16 ≤ target.now.window }
+    requires room { target.now.window ≡ length window.old }
+    requires masked { src.old.hides ≡ true }
+    ensures writes { (source : ImageSource) → HasSource src.old image.now source target.now →
+        WritesImage out.old out.new result (relocated_bytes source image.now.leaves target.now) }
+    ensures stops { IfErr result (StopsImage src.old src.new out.new) }
+    ensures cost { (source : ImageSource) → HasSource src.old image.now source target.now →
+        src.new.asked ≤ src.old.asked + relocated_cost source image.now target.now }
+    ensures bounded { src.new.asked ≤ src.old.asked
+        + relocated_ceiling src.old.seen.size target.now.window target.now.size }
+{
+    let marks = check(src, image, target)?;
+    check_budget(src, image, target, &marks)?;
+    write_segment_windows(src, image, target, &marks, window, out)
 }
 
 /// Returns the segment of a program header, written in windows of a size.
@@ -132,6 +185,11 @@ fn target_of(index: u16, header: &Phdr, window: u64, hides: bool) -> ImageTarget
     requires { 16 ≤ window }
     ensures some { 16 ≤ result.window }
     ensures window { result.window ≡ window }
+    ensures place { (result.index ≡ index) × (result.first ≡ header.now.p_vaddr)
+        × (result.size ≡ header.now.p_memsz) }
+    ensures held { (result.bytes.at ≡ header.now.p_offset)
+        × (result.bytes.size ≡ header.now.p_filesz) }
+    ensures hides { result.hides ≡ hides }
     ensures bytes { result.bytes.at + result.bytes.size
         ≡ header.now.p_offset + header.now.p_filesz }
 {
@@ -148,32 +206,6 @@ fn target_of(index: u16, header: &Phdr, window: u64, hides: bool) -> ImageTarget
     }
 }
 
-/// Checks all relocations, and marks the windows of a segment that they meet.
-///
-/// # Errors
-/// Returns the first refusal, or a fault of the source.
-fn check<S: Source>(
-    src: &mut Counted<S>,
-    image: &ImageFile<'_, '_>,
-    target: &ImageTarget,
-) -> Result<WindowMarks, Fault>
-    requires image { ImageWithin src.old.seen.size image.now }
-    requires window { 0 < target.now.window }
-    ensures { KeepsSource src.old.seen src.new.seen }
-{
-    let mut marks = WindowMarks::new();
-    let mut walk = ImageWalk::new(image, None);
-    'steps: loop {
-        match walk.step(src, image)? {
-            WalkStep::Stores(change) if change.place.segment == target.index => {
-                marks.mark(change.place.offset, change.width, target.window);
-            }
-            WalkStep::End => return Ok(marks),
-            _ => {}
-        }
-    }
-}
-
 /// Checks that what is left of a limit is enough for the passes that write.
 ///
 /// # Errors
@@ -185,6 +217,8 @@ fn check_budget<S: Source>(
     marks: &WindowMarks,
 ) -> Result<(), Fault>
     requires { 0 < target.now.window }
+    ensures { BudgetDecides src.now target.now.bytes.at
+        (windows_cost image.now target.now marks.now) result }
 {
     let Some(left) = src.left() else {
         return Ok(());
@@ -202,104 +236,4 @@ fn check_budget<S: Source>(
         }));
     }
     Ok(())
-}
-
-/// A window of the segment: its offset, and whether a relocation stores something in it.
-#[derive(Clone, Copy)]
-struct WindowPlace {
-    low: u64,
-    met: bool,
-}
-
-/// Writes the segment, window by window. All relocations are checked.
-fn write_segment_windows<S: Source, W: Sink>(
-    src: &mut Counted<S>,
-    image: &ImageFile<'_, '_>,
-    target: &ImageTarget,
-    marks: &WindowMarks,
-    room: &mut [u8],
-    out: &mut Out<W>,
-) -> Result<(), RunFault>
-    requires image { ImageWithin src.old.seen.size image.now }
-    requires within { target.now.bytes.at + target.now.bytes.size ≤ src.old.seen.size }
-    requires some { 16 ≤ target.now.window }
-    requires room { target.now.window ≡ length room.old }
-{
-    let size = target.size;
-    let mut low = 0;
-    'windows: while low < size {
-        let count = (size - low).min(target.window);
-        let met = marks.is_marked(low / target.window);
-        let place = WindowPlace { low, met };
-        write_window(src, image, target, place, &mut room[0..count as usize], out)?;
-        low += count;
-    }
-    Ok(())
-}
-
-/// Writes one window of the segment, as many bytes as `bytes` has; they are left in it.
-fn write_window<S: Source, W: Sink>(
-    src: &mut Counted<S>,
-    image: &ImageFile<'_, '_>,
-    target: &ImageTarget,
-    place: WindowPlace,
-    bytes: &mut [u8],
-    out: &mut Out<W>,
-) -> Result<(), RunFault>
-    requires image { ImageWithin src.old.seen.size image.now }
-    requires within { target.now.bytes.at + target.now.bytes.size ≤ src.old.seen.size }
-    requires fits { place.low + length bytes.old < 2 ^ 64 }
-    ensures { src.new.seen.size ≡ src.old.seen.size }
-{
-    let mut window = read_window(src, target, place.low, bytes)?;
-    if place.met {
-        patch_window(src, image, target, &mut window)?;
-    }
-    out.put(window.bytes())?;
-    Ok(())
-}
-
-/// Reads a window of a segment, whose fields that locate section headers are masked only if that is
-/// asked for.
-///
-/// # Errors
-/// Returns a fault of a read.
-fn read_window<'w, S: Source>(
-    src: &mut Counted<S>,
-    target: &ImageTarget,
-    low: u64,
-    bytes: &'w mut [u8],
-) -> Result<ImageWindow<'w>, Fault>
-    requires within { target.now.bytes.at + target.now.bytes.size ≤ src.old.seen.size }
-    requires fits { low + length bytes.old < 2 ^ 64 }
-    ensures { src.new.seen.size ≡ src.old.seen.size }
-{
-    src.mask_section_headers(target.hides);
-    let window = ImageWindow::read(src, target.bytes, low, bytes);
-    src.mask_section_headers(true);
-    window
-}
-
-/// Stores into a window of a segment what the relocations store there.
-fn patch_window<S: Source>(
-    src: &mut Counted<S>,
-    image: &ImageFile<'_, '_>,
-    target: &ImageTarget,
-    window: &mut ImageWindow<'_>,
-) -> Result<(), Fault>
-    requires { ImageWithin src.old.seen.size image.now }
-    ensures { KeepsSource src.old.seen src.new.seen }
-{
-    let base = image.base;
-    let wanted = Some(window.reach(target.first));
-    let mut walk = ImageWalk::new(image, wanted);
-    'steps: loop {
-        match walk.step(src, image)? {
-            WalkStep::Stores(change) if change.place.segment == target.index => {
-                window.store(&change, base);
-            }
-            WalkStep::End => return Ok(()),
-            _ => {}
-        }
-    }
 }
