@@ -22,12 +22,12 @@ some_bytes [] rest byte is = cc
 some_bytes (x ∷ xs) rest byte is = cc
 
 -- an answer whose text has a byte is no refusal
-whole : (answer : Result (List ℕ) Refusal) (out rest : List ℕ) (byte : ℕ) → text_of answer ≡ out ++ byte ∷ rest → answer ≡ Ok (out ++ byte ∷ rest)
+pub whole : (answer : Result (List ℕ) Refusal) (out rest : List ℕ) (byte : ℕ) → text_of answer ≡ out ++ byte ∷ rest → answer ≡ Ok (out ++ byte ∷ rest)
 whole (Ok text) out rest byte is = ap Ok is
 whole (Err refusal) out rest byte is = absurd (some_bytes out rest byte is)
 
 -- a sink that took a byte is changed
-unchanged : (name other : ℕ) (xs : List ℕ) (byte : ℕ) (old new : OutState) → old.taken ≡ Some (name ∷ []) → Some (other ∷ (xs ++ byte ∷ [])) ≡ new.taken → new ≡ old → ⊥
+pub unchanged : (name other : ℕ) (xs : List ℕ) (byte : ℕ) (old new : OutState) → old.taken ≡ Some (name ∷ []) → Some (other ∷ (xs ++ byte ∷ [])) ≡ new.taken → new ≡ old → ⊥
 unchanged name other xs byte old new before after same =
     let both : Some (other ∷ (xs ++ byte ∷ [])) ≡ Some (name ∷ []) = after ∙ ap (λ (w : OutState). w.taken) same ∙ before in
     let none : [] ≡ xs ++ byte ∷ [] = cc in

@@ -37,8 +37,8 @@ pub extern "C" fn elfsee_image(
     out: &mut [u8],
     end: &mut CallEnd,
 ) -> u32
-    ensures { ReturnsImage limits.now items.now (length room.old) (length window.old)
-        result out.old out.new end.new }
+    ensures { ReturnsImage file.now limits.now segment items.now (length room.old)
+        (length window.old) result out.old out.new end.new }
 {
     let told = image_in(file, limits, segment, items, room, window, out, end);
     report_status(told, end)
@@ -55,10 +55,10 @@ fn image_in(
     out: &mut [u8],
     end: &mut CallEnd,
 ) -> CallStatus
-    ensures images { ImagesInMemory limits.now items.now (length room.old) (length window.old)
-        out.old out.new end.new result }
+    ensures images { ImagesInMemory file.now limits.now segment items.now (length room.old)
+        (length window.old) out.old out.new end.new result }
     ensures written { CountsWritten end.new result }
-    ensures within { end.new.written ≤ length out.old }
+    ensures within { end.new.written ≤ length out.new }
     ensures clear { (end.new.cause ≡ 0) × (end.new.at ≡ 0) × (end.new.none ≡ 0) }
 {
     end.clear();
@@ -88,10 +88,7 @@ fn image_in(
     };
     let written = write_segment(file, &mut store, &wanted, window, out, &mut outcome);
     end.asked = short(outcome.asked);
-    end.written = match outcome.told {
-        CallStatus::Refused(_) => 0,
-        _ => written as u64,
-    };
+    end.written = written as u64;
     outcome.told
 }
 

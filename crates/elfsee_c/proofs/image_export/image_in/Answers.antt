@@ -1,14 +1,30 @@
 -- The arguments are in range, so the call is made with them.
-use Rattle.std.proofs.Common.{◌≤◌, length, arith}
-use Rattle.elf_capi.proofs.ImageLaws.{images}
+use Rattle.std.proofs.Common.{◌≡◌, ◌^◌, ◌-◌, ◌==◌, ◌≤◌, length, ap, ◌∙◌, arith}
+use Rattle.elf_table.specs.Store.{StoreState}
+use Rattle.elf_image.specs.Items.{GivenItems, said_by}
+use Rattle.elf_capi.proofs.ImageLaws.{images, images_count}
+use Rattle.elf_capi.specs.Images.{said_items}
+use Rattle.elf_capi.specs.Limits.{headers_of}
 use Rattle.elf_capi.specs.declared.end.CallEnd.{CallEnd}
 use Rattle.elfsee_c.proofs.image_export.image_in.Goals as goal
 
 pub returns-clause-images : goal.returns-clause-images
 returns-clause-images c =
     let args = c.args in
+    let room = length args.room.now in
     let wide : 16 ≤ length args.window.now = omega (arith, c.if-window-lt-WINDOW_BYTES.false) in
     let start = c.clear.new.self in
-    let end : CallEnd = record { at = start.at; written = c.match-outcome.end; asked = c.short-end.result; cause = start.cause; none = start.none } in
-    images args.limits.now args.items.now (length args.room.now) (length args.window.now) args.out.now c.write_segment-written.new.out end c.write_segment-written.new.outcome.told
-    (c.in-Some.ensures.0, c.in-Some-lend.ensures.0) wide c.write_segment-written.ensures.made
+    let did = c.write_segment-written in
+    let end : CallEnd = record { at = start.at; written = did.result; asked = c.short-end.result; cause = start.cause; none = start.none } in
+    let permits : c.over-store.result.slots ≡ headers_of args.limits.now room = ap (λ (s : StoreState). s.slots) c.over-store.ensures ∙ c.in-Some.ensures.1 in
+    let says : said_by _ (args.items.now.partial == 1) ≡ said_items args.items.now = ap (λ (g : GivenItems). said_by g (args.items.now.partial == 1)) c.in-Some-lend.ensures.1 in
+    images args.file.now args.limits.now args.segment args.items.now room (length args.window.now) args.out.now did.new.out end did.new.outcome.told c.over-store.result.slots _
+    permits says (c.in-Some.ensures.0, c.in-Some-lend.ensures.0) wide did.ensures.text
+    (omega (arith, c.short-end.ensures, did.ensures.cost))
+
+pub returns-clause-written : goal.returns-clause-written
+returns-clause-written c =
+    let start = c.clear.new.self in
+    let did = c.write_segment-written in
+    let end : CallEnd = record { at = start.at; written = did.result; asked = c.short-end.result; cause = start.cause; none = start.none } in
+    images_count c.args.file.now c.over-store.result.slots c.args.segment (2 ^ 64 - 1) _ did.new.out end did.new.outcome.told did.ensures.text
