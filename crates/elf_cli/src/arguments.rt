@@ -6,14 +6,14 @@ ghost use Rattle.elf_cli.specs.Described.{argument_row};
 use crate::arg_specs::{ArgKind, ArgSpec};
 use crate::command_sets::{
     APPLY, ARCHIVE, BYTES, CHECK, EXPLAIN, FIND, IMAGE, LINES, LIST, LISTING, MANY_FILES, ONE_FILE,
-    READING, SAMPLE, SELECTING, SHOW, TRAITS,
+    READING, RESOLVE, SAMPLE, SELECTING, SHOW, TRAITS,
 };
 use crate::needs_arguments::{
     BINDINGS, CACHE, DEFAULT, LIBRARY_PATH, MAX_TRIES, NO_CACHE, PROBLEMS, ROOT, UNUSED,
 };
 use clap::builder::ValueParser;
 
-static ARGUMENTS: [ArgSpec; 46] = [
+static ARGUMENTS: [ArgSpec; 52] = [
     ArgSpec {
         name: "headers",
         short: None,
@@ -22,6 +22,15 @@ static ARGUMENTS: [ArgSpec; 46] = [
         help: "Allow N section and N program headers,\n\
             1 to 65279",
         commands: READING,
+    },
+    ArgSpec {
+        name: "headers",
+        short: None,
+        alias: Some("max-headers"),
+        kind: ArgKind::Count(ValueParser::Signed(1, 65279), "65279"),
+        help: "Allow N section and N program headers,\n\
+            1 to 65279",
+        commands: RESOLVE,
     },
     ArgSpec {
         name: "names",
@@ -39,7 +48,43 @@ static ARGUMENTS: [ArgSpec; 46] = [
         kind: ArgKind::Number(ValueParser::Unsigned(0, 9_223_372_036_854_775_807)),
         help: "Read at most N bytes of the file:\n\
             0 to 9223372036854775807 [default: no limit]",
-        commands: READING,
+        commands: READING | RESOLVE,
+    },
+    ArgSpec {
+        name: "keys",
+        short: None,
+        alias: None,
+        kind: ArgKind::Number(ValueParser::Unsigned(1, 16_777_216)),
+        help: "Allow N names of symbols, of files and indexes:\n\
+            1 to 16777216 [default: 262144]",
+        commands: RESOLVE,
+    },
+    ArgSpec {
+        name: "key-bytes",
+        short: None,
+        alias: None,
+        kind: ArgKind::Number(ValueParser::Unsigned(1, 1_073_741_824)),
+        help: "Allow N bytes of names:\n\
+            1 to 1073741824 [default: 16777216]",
+        commands: RESOLVE,
+    },
+    ArgSpec {
+        name: "index",
+        short: None,
+        alias: None,
+        kind: ArgKind::Number(ValueParser::Unsigned(1, 16_777_216)),
+        help: "Allow N entries of the indexes of archives:\n\
+            1 to 16777216 [default: 262144]",
+        commands: RESOLVE,
+    },
+    ArgSpec {
+        name: "rows",
+        short: None,
+        alias: None,
+        kind: ArgKind::Number(ValueParser::Unsigned(1, 16_777_216)),
+        help: "Allow N files and members of archives:\n\
+            1 to 16777216 [default: 16384]",
+        commands: RESOLVE,
     },
     MAX_TRIES,
     LIBRARY_PATH,
@@ -125,7 +170,7 @@ static ARGUMENTS: [ArgSpec; 46] = [
         alias: None,
         kind: ArgKind::Flag,
         help: "Print each line as a JSON object",
-        commands: LINES,
+        commands: LINES | RESOLVE,
     },
     ArgSpec {
         name: "table",
@@ -342,6 +387,14 @@ static ARGUMENTS: [ArgSpec; 46] = [
         kind: ArgKind::Any,
         help: "A file or a directory; - is the file on standard input",
         commands: MANY_FILES,
+    },
+    ArgSpec {
+        name: "WORDS",
+        short: None,
+        alias: None,
+        kind: ArgKind::Any,
+        help: "After --, the arguments of a linker",
+        commands: RESOLVE,
     },
     ArgSpec {
         name: "CAUSE",
