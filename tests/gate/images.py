@@ -1,10 +1,10 @@
 #!/usr/bin/env python3
-"""Tests `image` over a file that is made here: its image by items, with changes of the file, and what is missing.
+"""Tests `image` over a file that is made here: its image by items, with changes of the file, and limits on what is read and written.
 
     tests/gate/images.py [--program PROGRAM]
 
 Each case is a change of the file or of the items, with the first eight words of the image, or the line of the
-refusal. Without PROGRAM the repository's own is used, and built first if it is not built. The last line is
+refusal; or a limit, with the image or the refusal `budget` alone. Without PROGRAM the repository's own is used, and built first if it is not built. The last line is
 `N passed, N failed`."""
 
 import os
@@ -114,6 +114,27 @@ def shown(got):
     return " ".join(f"{word:x}" for word in struct.unpack_from("<8Q", text)) if status == 0 else f"status {status}"
 
 
+# What an image of the file may read at most: the headers, the dynamic entries, the relocations twice, since its one window
+# has some, the segment and 14 bytes at the window's edges.
+COST = 64 + 3 * 56 + 0xf0 + 2 * (16 + 72 * 5) + 0x170 + 14
+
+
+def try_limits(counts, program, path, whole):
+    """A limit on what is read refuses alone, with nothing written, and only if it is below what may be read; one on what is
+    written refuses exactly a larger segment, at its program header."""
+    fault, was_enough = None, False
+    for budget in (*range(0, COST, 3), COST, 2 * COST):
+        text, status = image(program, path, "--max-read", str(budget), ["1", *ITEMS])
+        is_refused = status == 1 and text.startswith(b"! ") and text.endswith(b" budget\n") and text.count(b"\n") == 1
+        if not (is_refused and budget < COST and not was_enough or (text, status) == (whole, 0)):
+            fault = fault or f"--max-read {budget}: status {status}, {text[:60]}"
+        was_enough = status == 0
+    counts.case("limits on what is read", fault)
+    for most in (0, 399, 400, 401):
+        wanted = (whole, 0) if most >= 400 else (b"! 0000000000000078 budget\n", 1)
+        counts.check(f"--max-write {most}", wanted, image(program, path, "--max-write", str(most), ["1", *ITEMS]))
+
+
 def main():
     given = testing.option_reader(__doc__).parse_args()
     program = testing.program_of(given)
@@ -131,6 +152,7 @@ def main():
             counts.check(name, wanted, shown(got))
             if name == "none":
                 counts.check("the length", 400, len(got[0]))
+                try_limits(counts, program, path, got[0])
     return counts.end()
 
 
