@@ -1,11 +1,12 @@
 #!/usr/bin/env python3
-"""Tests `image` over a file that is made here: its image by items, with changes of the file, and limits on what is read and written.
+"""Tests `image` over a file that is made here: its image by items, with changes of the file, and limits on what is read
+and written.
 
     tests/gate/images.py [--program PROGRAM]
 
 Each case is a change of the file or of the items, with the first eight words of the image, or the line of the
-refusal; or a limit, with the image or the refusal `budget` alone. Without PROGRAM the repository's own is used, and built first if it is not built. The last line is
-`N passed, N failed`."""
+refusal; or a limit, with the image or the refusal `budget` alone. Without PROGRAM the repository's own is used, and
+built first if it is not built. The last line is `N passed, N failed`."""
 
 import os
 import struct
