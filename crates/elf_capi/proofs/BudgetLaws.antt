@@ -32,6 +32,11 @@ pub spent : (budget : Option ℕ) (s t : CountedState) (asked : ℕ) → s.most 
 spent None s t asked limit is within = tt
 spent (Some bytes) s t asked limit is within = let most = within bytes limit in omega (arith, is, most)
 
+-- nor is less than that
+pub spends_less : (budget : Option ℕ) (less asked : ℕ) → less ≤ asked → IfSome budget (λ bytes. asked ≤ bytes) → IfSome budget (λ bytes. less ≤ bytes)
+spends_less None less asked few within = tt
+spends_less (Some bytes) less asked few within = omega (arith, few, within)
+
 -- a budget of which n bytes are left
 pub rest_wanting : (budget : Option ℕ) (asked cost size : ℕ) (refusal : Refusal) → IsWanting (option_map (λ bytes. bytes - asked) budget) cost size refusal
     → (bytes : ℕ) × (budget ≡ Some bytes) × (bytes < asked + cost)

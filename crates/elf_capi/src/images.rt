@@ -1,5 +1,5 @@
 //! The image of a segment of a file in memory, written to memory of the caller.
-ghost use Rattle.std.specs.Prelude.{◌≡◌, ◌≤◌, length};
+ghost use Rattle.std.specs.Prelude.{◌≡◌, ◌≤◌, IfSome, length};
 ghost use Rattle.elf_image.specs.ImageWrites.{request_items};
 ghost use Rattle.elf_capi.specs.Images.{ImagesIn, image_reads};
 
@@ -34,9 +34,11 @@ pub fn write_segment(
     requires { 16 ≤ length window.old }
     ensures slots { store.new.slots ≡ store.old.slots }
     ensures within { result ≤ length out.new }
-    ensures text { ImagesIn file.now store.old.slots wanted.now out.new result outcome.new.told }
+    ensures text { ImagesIn file.now store.old.slots (length window.old) wanted.now out.new result
+        outcome.new.told }
     ensures cost { outcome.new.asked ≤ image_reads file.now wanted.now.request.segment
         (length window.old) (request_items wanted.now.request) }
+    ensures budget { IfSome wanted.now.budget (λ bytes. outcome.new.asked ≤ bytes) }
 {
     let ProbeSink {
         buffer: _buffer,
@@ -59,10 +61,11 @@ fn segment_to_sink<'a>(
     requires { 16 ≤ length window.old }
     ensures slots { store.new.slots ≡ store.old.slots }
     ensures same { result.buffer.ghost_name ≡ out.entry.ghost_name }
-    ensures text { ImagesIn file.now store.old.slots wanted.now result.buffer.now result.len
-        outcome.new.told }
+    ensures text { ImagesIn file.now store.old.slots (length window.old) wanted.now
+        result.buffer.now result.len outcome.new.told }
     ensures cost { outcome.new.asked ≤ image_reads file.now wanted.now.request.segment
         (length window.old) (request_items wanted.now.request) }
+    ensures budget { IfSome wanted.now.budget (λ bytes. outcome.new.asked ≤ bytes) }
 {
     let mut src = file_within(file, wanted.budget);
     let mut out = Out::new(ProbeSink::new(out));

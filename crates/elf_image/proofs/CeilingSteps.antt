@@ -1,12 +1,12 @@
 -- How many bytes an image reads at most, of every source.
-use Rattle.std.proofs.Common.{◌≡◌, ℕ, ◌+◌, ◌-◌, ◌*◌, ◌/◌, ◌<◌, ◌≤◌, Bool, List, length, ap, arith, inl, inr}
+use Rattle.std.proofs.Common.{◌≡◌, ℕ, ◌+◌, ◌-◌, ◌*◌, ◌/◌, ◌<◌, ◌≤◌, Bool, List, ap, arith, inl, inr}
 use Rattle.std.proofs.Math.Nat.{div-mul-le_self}
 use Rattle.std.proofs.lemmas.Bool.{cases_lt}
 use Rattle.std.proofs.lemmas.List.Sums.{count_by-le-length, length-filter}
 use Rattle.std.proofs.lemmas.Nat.{le-div, mul-le}
 use Rattle.elf_model.specs.Apply.{places_from}
 use Rattle.elf_model.proofs.ChangeSteps.{length-places_from}
-use Rattle.elf_table.specs.Prelude.{TableRange, size_of}
+use Rattle.elf_table.specs.Prelude.{TableRange}
 use Rattle.elf_image.specs.Changes.{image_pass}
 use Rattle.elf_image.specs.ImageWrites.{pass_ceiling, relocated_ceiling}
 use Rattle.elf_image.specs.Marks.{is_window_marked, marked_windows}

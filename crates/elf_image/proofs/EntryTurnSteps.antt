@@ -14,7 +14,9 @@ use Rattle.elf_table.specs.Windows.{HoldsBytes}
 use Rattle.elf_table.specs.declared.fault.Fault.{Fault}
 use Rattle.elf_table.specs.declared.fault.Fault.TheVariants.{Refused, Source}
 use Rattle.elf_image.specs.EntryOrder.{AreOrderedEntries, BeginsPart, IsFarChange, NoneResolved, PassesBy, TakesOrderedEntry, TakesRow, direct_part, entry_changes_left, is_noted, numbered_changes, part_changes, part_kind, parts_left, entry_places_left, range_table, relative_from}
-use Rattle.elf_image.specs.RelaRows.{IsFarRow, IsRelaRow, PassesRows, entry_place}
+use Rattle.elf_image.specs.Chunks.{HoldsChunks}
+use Rattle.elf_image.specs.RelaRows.{IsFarEntry, IsFarRow, IsRelaRow, PassesRows, entry_place}
+use Rattle.elf_image.specs.declared.chunks.EntryChunks.{EntryChunks}
 use Rattle.elf_image.specs.declared.entries.EntryStep.{EntryStep}
 use Rattle.elf_image.specs.declared.entries.EntryStep.TheVariants as step
 use Rattle.elf_image.specs.declared.entries.OrderedEntries.{OrderedEntries}
@@ -34,14 +36,15 @@ left-at-first source entries none =
     (part-none source entries.part.indirect (relative_from entries.ranges entries.part.second entries.rows.index) (entry_of entries.rows.table) entries.rows.index (entries.rows.table.count - entries.rows.index) n)
 
 pub known-at-first : (file : List ℕ) (entries : OrderedEntries) → HoldsBytes file entries.rows.window → entries.rows.table.count ≡ 0 → entries.rows.index ≡ 0 → entries.begun ≡ 0
-    → AreOrderedEntries file entries
-known-at-first file entries held none index begun = record {
+    → HoldsChunks file entries.ranges.first.at entries.chunks → AreOrderedEntries file entries
+known-at-first file entries held none index begun chunks = record {
   held = held;
   before = λ first. none;
   kind = λ number later. absurd (omega (arith, later, begun));
   table = λ later. absurd (omega (arith, later, begun));
   part = λ direct unnoted i below. absurd (omega (arith, below, index));
   past = λ second later. absurd (omega (arith, later, begun));
+  chunks = chunks;
 }
 
 -- AFTER THE LAST
@@ -107,6 +110,8 @@ known-at-part file old new known end b = record {
       = let e = b.begun in let j = ap (λ (r : EntryRanges). direct_part r.joined second) b.ranges in omega (arith, e, j, later) in
       let flag : is_noted old.indirect second ≡ false = ap (λ (noted : Bool × Bool). is_noted noted second) (sym b.noted) ∙ unnoted in
       subst (λ (r : EntryRanges). NoneResolved file (range_table r second) (range_table r second).count) (sym b.ranges) (passed-direct file old known end second before flag);
+  chunks = subst (λ (chunks : EntryChunks). HoldsChunks file new.ranges.first.at chunks) (sym b.chunks)
+      (subst (λ (r : EntryRanges). HoldsChunks file r.first.at old.chunks) (sym b.ranges) known.chunks);
 }
   where
     of-number : {X : Type 0} {number : ℕ} → number ≡ old.begun → (f : ℕ → X) → f old.begun ≡ f number
@@ -160,20 +165,20 @@ module _ (source : ImageSource) (old new : OrderedEntries) (known : AreOrderedEn
       ∙ ap (λ (ranges : EntryRanges). part_changes source new.part.indirect (relative_from ranges new.part.second new.rows.index) (entry_places_left new.rows.table new.rows.index) ++ parts_left source ranges new.begun) (sym b.ranges)
 
 -- ENTRIES OF A PART. A cursor whose rows went on
-abbrev pub moved : OrderedEntries → RelaRows → (noted : Bool × Bool) → OrderedEntries
-moved old rows noted =
-    record { ranges = old.ranges; rows = rows; part = old.part; begun = old.begun; indirect = noted; wanted = old.wanted }
+abbrev pub moved : OrderedEntries → RelaRows → (noted : Bool × Bool) → EntryChunks → OrderedEntries
+moved old rows noted chunks =
+    record { ranges = old.ranges; rows = rows; part = old.part; begun = old.begun; indirect = noted; wanted = old.wanted; chunks = chunks }
 
 pub moved-as : (old new : OrderedEntries) (rows : RelaRows) → new.rows ≡ rows → new.ranges ≡ old.ranges → new.begun ≡ old.begun → new.part ≡ old.part → new.wanted ≡ old.wanted
-    → moved old rows new.indirect ≡ new
+    → moved old rows new.indirect new.chunks ≡ new
 moved-as old new rows a b c d e =
-    let f : moved old rows new.indirect ≡ moved new new.rows new.indirect = cc in f
+    let f : moved old rows new.indirect new.chunks ≡ moved new new.rows new.indirect new.chunks = cc in f
 
-module _ (old : OrderedEntries) (rows : RelaRows) (noted : Bool × Bool) (table : rows.table ≡ old.rows.table) (few : rows.index ≤ old.rows.table.count) where
+module _ (old : OrderedEntries) (rows : RelaRows) (noted : Bool × Bool) (chunks : EntryChunks) (table : rows.table ≡ old.rows.table) (few : rows.index ≤ old.rows.table.count) where
   pub left-over : (source : ImageSource) (n : ℕ) → rows.index ≡ old.rows.index + n
       → entry_changes_left source old
       ≡ part_changes source old.part.indirect (relative_from old.ranges old.part.second old.rows.index) (places_from (entry_of old.rows.table) old.rows.index n)
-      ++ entry_changes_left source (moved old rows noted)
+      ++ entry_changes_left source (moved old rows noted chunks)
   unfolding entry_changes_left
   left-over source n is =
       let relative = relative_from old.ranges old.part.second old.rows.index in
@@ -184,11 +189,11 @@ module _ (old : OrderedEntries) (rows : RelaRows) (noted : Bool × Bool) (table 
       ∙ append_assoc front rest parts
       ∙ ap (λ (t : TableRange). front ++ (part_changes source old.part.indirect (relative_from old.ranges old.part.second rows.index) (entry_places_left t rows.index) ++ parts)) (sym table)
 
-  pub known-over : (file : List ℕ) → AreOrderedEntries file old → HoldsBytes file rows.window
+  pub known-over : (file : List ℕ) → AreOrderedEntries file old → HoldsBytes file rows.window → HoldsChunks file old.ranges.first.at chunks
       → ((second : Bool) → is_noted noted second ≡ false → is_noted old.indirect second ≡ false)
       → ((i : ℕ) → old.rows.index ≤ i → i < rows.index → old.part.indirect ≡ false → is_noted noted old.part.second ≡ false → is_resolved file (entry_place old.rows i) ≡ false)
-      → AreOrderedEntries file (moved old rows noted)
-  known-over file known held keeps over = record {
+      → AreOrderedEntries file (moved old rows noted chunks)
+  known-over file known held holds keeps over = record {
     held = held;
     before = λ first. ap (λ (t : TableRange). t.count) table ∙ known.before first;
     kind = known.kind;
@@ -203,6 +208,7 @@ module _ (old : OrderedEntries) (rows : RelaRows) (noted : Bool × Bool) (table 
           subst (λ (t : TableRange). is_resolved file (t.at + RELA_SIZE * i) ≡ false) (known.table later direct) (over i after below direct unnoted)
     ];
     past = λ second later unnoted. known.past second later (keeps second unnoted);
+    chunks = holds;
   }
 
 -- WHAT A STEP TAKES. An entry that was read, before the others
@@ -230,16 +236,16 @@ module _ (source : ImageSource) (wanted : Option WindowReach) where
   takes-none before after e = ([], e, All-nil (IsFarChange source.file wanted))
 
 -- entries that cannot store into the window are passed by
-pub takes-far : (source : ImageSource) (wanted : Option WindowReach) (old : OrderedEntries) (rows : RelaRows) (noted : Bool × Bool) → rows.table ≡ old.rows.table → rows.index ≤ old.rows.table.count
+pub takes-far : (source : ImageSource) (wanted : Option WindowReach) (old : OrderedEntries) (rows : RelaRows) (noted : Bool × Bool) (chunks : EntryChunks) → rows.table ≡ old.rows.table → rows.index ≤ old.rows.table.count
     → old.rows.index ≤ rows.index → ((i : ℕ) → old.rows.index ≤ i → i < rows.index → IsFarRow source.file (entry_place old.rows i) wanted) → old.rows.index < rows.index
-    → PassesBy source.file wanted (entry_changes_left source old) (entry_changes_left source (moved old rows noted))
-takes-far source None old rows noted table few rises far some = absurd (far old.rows.index (omega arith) (omega (arith, some)))
-takes-far source (Some reach) old rows noted table few rises far some =
+    → PassesBy source.file wanted (entry_changes_left source old) (entry_changes_left source (moved old rows noted chunks))
+takes-far source None old rows noted chunks table few rises far some = absurd (far old.rows.index (omega arith) (omega (arith, some)))
+takes-far source (Some reach) old rows noted chunks table few rises far some =
     let n = rows.index - old.rows.index in
     let relative = relative_from old.ranges old.part.second old.rows.index in
     let is : rows.index ≡ old.rows.index + n = omega (arith, rises) in (
       part_changes source old.part.indirect relative (places_from (entry_of old.rows.table) old.rows.index n),
-      left-over old rows noted table few source n is,
+      left-over old rows noted chunks table few source n is,
       part-far source (entry_of old.rows.table) reach old.part.indirect relative old.rows.index n (λ k low high. far k low (omega (arith, high, is))),
     )
 
@@ -257,27 +263,49 @@ passes-some old new None passes = absurd passes
 passes-some old new (Some reach) passes = passes
 
 -- to the next entry
-module _ (old : OrderedEntries) (rows : RelaRows) (noted : Bool × Bool) (row : RelaRow) (table : rows.table ≡ old.rows.table) (some : old.rows.index < old.rows.table.count)
+module _ (old : OrderedEntries) (rows : RelaRows) (noted : Bool × Bool) (chunks : EntryChunks) (row : RelaRow) (table : rows.table ≡ old.rows.table) (some : old.rows.index < old.rows.table.count)
     (one : (rows.index ≡ old.rows.index + 1) × (row.index ≡ old.rows.index)) where
-  pub known-row : (file : List ℕ) → AreOrderedEntries file old → HoldsBytes file rows.window → IsRelaRow file old.rows row
+  pub known-row : (file : List ℕ) → AreOrderedEntries file old → HoldsBytes file rows.window → HoldsChunks file old.ranges.first.at chunks → IsRelaRow file old.rows row
       → ((second : Bool) → is_noted noted second ≡ false → is_noted old.indirect second ≡ false)
       → (old.part.indirect ≡ false → is_noted noted old.part.second ≡ false → is_resolved file row.at ≡ false)
-      → AreOrderedEntries file (moved old rows noted)
-  known-row file known held is keeps clear =
+      → AreOrderedEntries file (moved old rows noted chunks)
+  known-row file known held holds is keeps clear =
       let next = one.0 in
-      known-over old rows noted table (omega (arith, some, next)) file known held keeps (λ i low high direct unnoted.
+      known-over old rows noted chunks table (omega (arith, some, next)) file known held holds keeps (λ i low high direct unnoted.
       let same : old.rows.index ≡ i = omega (arith, low, high, next) in
       subst (λ (k : ℕ). is_resolved file (entry_place old.rows k) ≡ false) same (subst (λ (a : ℕ). is_resolved file a ≡ false) is.place (clear direct unnoted)))
 
   pub takes-next : (source : ImageSource) (wanted : Option WindowReach) (result : Result EntryStep Fault) → IsRelaRow source.file old.rows row
       → TakesRow source row (part_changes source old.part.indirect (relative_from old.ranges old.part.second row.index) (row.at ∷ [])) result
-      → TakesOrderedEntry source wanted (entry_changes_left source old) (entry_changes_left source (moved old rows noted)) result
+      → TakesOrderedEntry source wanted (entry_changes_left source old) (entry_changes_left source (moved old rows noted chunks)) result
   unfolding places_from
   takes-next source wanted result is takes =
       let next = one.0 in
-      let rest = entry_changes_left source (moved old rows noted) in
+      let rest = entry_changes_left source (moved old rows noted chunks) in
       let place : places_from (entry_of old.rows.table) old.rows.index 1 ≡ row.at ∷ [] = ap (λ (a : ℕ). a ∷ []) (sym is.place) in
-      let before = left-over old rows noted table (omega (arith, some, next)) source 1 next
+      let before = left-over old rows noted chunks table (omega (arith, some, next)) source 1 next
       ∙ ap (λ (places : List ℕ). part_changes source old.part.indirect (relative_from old.ranges old.part.second old.rows.index) places ++ rest) place
       ∙ ap (λ (i : ℕ). part_changes source old.part.indirect (relative_from old.ranges old.part.second i) (row.at ∷ []) ++ rest) (sym one.1) in
       takes-row source wanted row (part_changes source old.part.indirect (relative_from old.ranges old.part.second row.index) (row.at ∷ [])) (entry_changes_left source old) rest result before is.entry is.addend takes
+
+-- a part with entries was begun
+some-begun : (file : List ℕ) (entries : OrderedEntries) → AreOrderedEntries file entries → 0 < entries.rows.table.count → 0 < entries.begun
+some-begun file entries known some = elim (cases_eq entries.begun 0) [
+  | inl first ↦ let none = known.before first in absurd (omega (arith, none, some))
+  | inr more ↦ omega (arith, more)
+]
+
+-- the place of an entry that was read, in its table
+pub row-place : (old : OrderedEntries) (row : RelaRow) (file : List ℕ) → AreOrderedEntries file old → row.index ≡ old.rows.index
+    → 0 < old.rows.table.count → IsRelaRow file old.rows row → old.part.indirect ≡ false → row.at ≡ (range_table old.ranges old.part.second).at + 24 * row.index
+row-place old row file known same some is direct =
+    is.place
+    ∙ (ap (λ (t : TableRange). t.at + 24 * old.rows.index) (known.table (some-begun file old known some) direct)
+    ∙ ap (λ (i : ℕ). (range_table old.ranges old.part.second).at + 24 * i) (sym same))
+
+-- an entry of a table that cannot store into the window is one that is ahead
+pub far-ahead : (file : List ℕ) (entries : OrderedEntries) (reach : WindowReach) (i : ℕ) → AreOrderedEntries file entries → entries.part.indirect ≡ false → entries.part.second ≡ false → entries.wanted ≡ Some reach
+    → i < entries.rows.table.count → IsFarEntry file (entries.ranges.first.at + 24 * i) reach → IsFarRow file (entry_place entries.rows i) entries.wanted
+far-ahead file entries reach i known direct first is below far =
+    subst (λ (wanted : Option WindowReach). IsFarRow file (entry_place entries.rows i) wanted) (sym is)
+    (subst (λ (t : TableRange). IsFarEntry file (t.at + 24 * i) reach) (sym (known.table (some-begun file entries known (omega (arith, below))) direct ∙ ap (range_table entries.ranges) first)) far)

@@ -1,11 +1,11 @@
 -- The checks of the LOAD program headers, one by one, and of the one that is wanted.
 use Rattle.std.proofs.Common.{◌≡◌, ℕ, zero, suc, ◌+◌, ◌^◌, ◌<◌, ◌≤◌, ◌||◌, nat_lt, Bool, true, false, List, [], ◌∷◌, ◌++◌, length, flat_map, None, Some, Result, Ok, Err, refl, sym, ap, subst, ◌∙◌, arith}
-use Rattle.std.proofs.lemmas.Bool.{eq-eqb, le-ltb, lt-ltb, ltb-false, ne_eqb}
+use Rattle.std.proofs.lemmas.Bool.{eq-eqb, le-ltb, lt-ltb, ltb-false, ltb-true, ne_eqb}
 use Rattle.elf_model.specs.Apply.{places_from}
 use Rattle.elf_model.specs.Checks.{Check, first_refusal, is_outside}
 use Rattle.elf_model.specs.ImageChecks.{kind_checks, requested_checks, segment_load_checks, segments_load_checks}
 use Rattle.elf_model.specs.Numbers.{EM_X86_64, PT_LOAD}
-use Rattle.elf_model.specs.Prelude.{e_machine, e_phnum, e_type, p_filesz, p_memsz, p_offset, p_type, p_vaddr, segment_at}
+use Rattle.elf_model.specs.Prelude.{IsBudgetRefusal, e_machine, e_phnum, e_type, p_filesz, p_memsz, p_offset, p_type, p_vaddr, segment_at}
 use Rattle.elf_model.specs.TraitNumbers.{is_linked_type}
 use Rattle.elf_model.specs.declared.causes.Cause.TheVariants.{BadLink, Budget, NotImage}
 use Rattle.elf_model.specs.declared.causes.Refusal.{Refusal}
@@ -90,6 +90,18 @@ module _ (file : List ℕ) (segment most : ℕ) where
       pub small : p_memsz file (segment_at file segment) ≤ most → first_refusal (requested_checks file segment most) ≡ None
       unfolding requested_checks
       small fits = rw (lt-ltb segment (e_phnum file) low, eq-eqb (p_type file (segment_at file segment)) PT_LOAD load, le-ltb most (p_memsz file (segment_at file segment)) fits, requested_checks) refl
+
+  -- only a header of a segment with more bytes than are allowed is refused with `Budget`
+  pub only_too_large : (refusal : Refusal) → first_refusal (requested_checks file segment most) ≡ Some refusal → IsBudgetRefusal refusal → most < p_memsz file (segment_at file segment)
+  unfolding requested_checks
+  only_too_large refusal e budget = go _ (nat_lt most (p_memsz file (segment_at file segment))) refl e
+    where
+      go : (a b : Bool) → nat_lt most (p_memsz file (segment_at file segment)) ≡ b
+          → first_refusal (record { fails = a; refusal = record { at = 0x38; cause = BadLink } } ∷ record { fails = b; refusal = record { at = segment_at file segment; cause = Budget } } ∷ []) ≡ Some refusal
+          → most < p_memsz file (segment_at file segment)
+      go true b is e = let other : BadLink ≡ Budget = cc in absurd (cc)
+      go false true is e = ltb-true most (p_memsz file (segment_at file segment)) is
+      go false false is e = absurd (cc)
 
 -- checks after others that pass
 pub decide_back : (front back : List Check) (result : Result (Unit {0}) Fault) → first_refusal front ≡ None → ChecksDecide back result → ChecksDecide (front ++ back) result

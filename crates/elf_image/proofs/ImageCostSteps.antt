@@ -18,7 +18,7 @@ use Rattle.elf_image.specs.Changes.{image_pass}
 use Rattle.elf_image.specs.Marks.{is_window_marked, marked_windows}
 use Rattle.elf_image.specs.Relocated.{AreRelrWords, SaysRelocations, entries_header, row_count}
 use Rattle.elf_image.specs.ImageWrites.{request_items, relocated_cost, windows_met}
-use Rattle.elf_image.specs.Written.{MarksWrites, window_count}
+use Rattle.elf_image.specs.Written.{MarksWrites, window_count, windows_cost}
 use Rattle.elf_image.specs.declared.changes.ImageFile.{ImageFile}
 use Rattle.elf_image.specs.declared.marks.WindowMarks.{WindowMarks}
 use Rattle.elf_image.specs.declared.segment_image.ImageRequest.{ImageRequest}
@@ -159,6 +159,15 @@ module _ (source : ImageSource) (image : ImageFile) (target : ImageTarget) where
       go : (result : Result (List SegmentWrite) Refusal) → all ≡ result → image_pass image ≤ relocated_cost source image target
       go (Err refusal) e = let c = refused_costs refusal e in omega (arith, c)
       go (Ok writes) e = let c = made_costs writes e in omega (arith, c)
+
+  -- by the windows that are marked
+  pub marked_costs : (writes : List SegmentWrite) (marks : WindowMarks) → all ≡ Ok writes → MarksWrites target.window target.index writes marks
+      → relocated_cost source image target ≡ image_pass image + windows_cost image target marks
+  marked_costs writes marks e are =
+      let marked = marked_met target.window target.index (window_count target) writes marks are in
+      let product : marked_windows marks.met (window_count target) * image_pass image ≡ met_windows target.window (window_count target) (writes_in target.index writes) * image_pass image =
+      ap (λ (n : ℕ). n * image_pass image) marked in
+      made_costs writes e ∙ omega (arith, product)
 
 -- those of a request
 module _ (whole file : List ℕ) (window : ℕ) (request : ImageRequest) where

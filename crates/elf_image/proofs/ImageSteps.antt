@@ -1,6 +1,6 @@
 -- The image that is asked for, by its checks one after another, by its relocations, and as it is
 -- written.
-use Rattle.std.proofs.Common.{◌≡◌, ℕ, ◌+◌, ◌^◌, ◌<◌, ◌≤◌, ◌==◌, ◌||◌, nat_lt, Bool, true, false, List, [], ◌∷◌, ◌++◌, length, None, Some, Result, Ok, Err, refl, sym, ap, subst, ◌∙◌, arith, append_assoc}
+use Rattle.std.proofs.Common.{◌≡◌, ℕ, ◌+◌, ◌^◌, ◌<◌, ◌≤◌, ◌==◌, ◌||◌, nat_lt, Bool, true, false, List, [], ◌∷◌, ◌++◌, length, None, Some, Result, Ok, Err, refl, inl, sym, ap, subst, ◌∙◌, arith, append_assoc}
 use Rattle.std.specs.Prelude.{is_none, unwrap_or}
 use Rattle.std.proofs.lemmas.Bool.{eq-eqb, eqb-true, ltb-false, ltb-true}
 use Rattle.elf_model.specs.Checks.{Check, first_refusal, header_checks, is_outside, load_checks, pass}
@@ -13,23 +13,26 @@ use Rattle.elf_model.specs.declared.causes.Refusal.{Refusal}
 use Rattle.elf_model.proofs.CheckSteps.{first_refusal-back, first_refusal-none, first_refusal-some, passes_front}
 use Rattle.elf_record.specs.Phdr.{IsPhdr}
 use Rattle.elf_record.specs.declared.phdr.Phdr.{Phdr}
-use Rattle.elf_source.specs.Prelude.{CountedState, ExceedsBudget, OutState}
-use Rattle.elf_table.specs.Prelude.{RefusedBy}
+use Rattle.elf_source.specs.Prelude.{CountedState, ExceedsBudget, OutState, ReadsUpTo, file_by}
+use Rattle.elf_table.specs.Prelude.{HoldsProgramHeaders, RefusedBy}
 use Rattle.elf_table.specs.Stops.{stop_of}
 use Rattle.elf_table.specs.declared.fault.Fault.{Fault}
 use Rattle.elf_table.specs.declared.fault.Fault.TheVariants as fault
 use Rattle.elf_table.specs.declared.run_fault.RunFault.{RunFault}
 use Rattle.elf_table.specs.declared.run_fault.RunFault.TheVariants.{Out, Refused, Source}
 use Rattle.elf_reloc.proofs.WindowSteps.{front_none}
+use Rattle.elf_image.specs.Chunks.{HoldsChunks}
 use Rattle.elf_image.specs.Items.{GivenItems, number_of, said_by}
 use Rattle.elf_image.specs.declared.image_items.ItemKind.TheVariants.{LoadAddress}
-use Rattle.elf_image.specs.Relocated.{ReadsAfter, entries_header, relocation_checks}
+use Rattle.elf_image.specs.Relocated.{ReadsAfter, SaysRelocations, entries_header, relocation_checks}
+use Rattle.elf_image.specs.Values.{IsBased, known_items}
+use Rattle.elf_image.specs.declared.changes.ImageFile.{ImageFile}
 use Rattle.elf_reloc.specs.Applied.{text_of}
-use Rattle.elf_image.specs.ImageWrites.{WritesImage, asked_image, request_items, relocated_bytes}
+use Rattle.elf_image.specs.ImageWrites.{HasSource, IsMaskedFile, IsTooLarge, RefusesOverLimit, WritesImage, asked_image, request_items, relocated_bytes}
 use Rattle.elf_image.specs.Written.{AllowsBytes, BudgetDecides, ChecksAll, IsTargetOf, WritesWithinLimit, bytes_after}
 use Rattle.elf_image.specs.declared.segment_image.ImageRequest.{ImageRequest}
 use Rattle.elf_image.specs.declared.segment_windows.ImageTarget.{ImageTarget}
-use Rattle.elf_image.proofs.HeaderSteps.{each_passes, load_within, loads_all}
+use Rattle.elf_image.proofs.HeaderSteps.{each_passes, load_within, loads_all, only_too_large}
 use Rattle.elf_image.proofs.ToldSteps.{changes_are}
 
 -- a fault is one of an answer, unless a read failed
@@ -101,9 +104,17 @@ module _ (whole file : List ℕ) (headers : ℕ) (request : ImageRequest) where
       pub loads_pass : first_refusal (segments_load_checks file) ≡ None
       loads_pass = first_refusal-back (overlap_checks file ++ kind_checks file) (segments_load_checks file) kind
 
+      request_answer : (refusal : Refusal) → first_refusal requested ≡ Some refusal → answer ≡ Err refusal
+      request_answer refusal e = refused_as refusal (after_kinds ∙ first_refusal-some requested (relocation_checks file) refusal e)
+
       pub request_refused : (fault : Fault) → RefusedBy requested fault → FaultOf answer fault
-      request_refused (fault.Refused refusal) e = λ other. refused_as refusal (after_kinds ∙ first_refusal-some requested (relocation_checks file) refusal e)
+      request_refused (fault.Refused refusal) e = λ other. request_answer refusal e
       request_refused (fault.Source reason at) e = tt
+
+      -- a segment with more bytes than are allowed
+      pub request_limits : (src : CountedState) (n : ℕ) (fault : Fault) → RefusedBy requested fault → RefusesOverLimit src n (IsTooLarge file request.segment request.most) answer (stop_of fault)
+      request_limits src n (fault.Refused refusal) e = λ budget. inl (only_too_large file request.segment request.most refusal e budget, request_answer refusal e)
+      request_limits src n (fault.Source reason at) e = tt
 
       module _ (asked : first_refusal requested ≡ None) where
         after_request : first_refusal (image_checks file headers requested) ≡ first_refusal (relocation_checks file)
@@ -197,6 +208,24 @@ module _ (file : List ℕ) (index most : ℕ) (loads : first_refusal (segments_l
         end = omega (arith, fits.1, vaddr, memory);
         whole = omega (arith, within, offset, bytes, long);
       })
+
+-- WHAT IS WRITTEN for a request, after reads that find the relocations of the file
+module _ (whole file : List ℕ) (request : ImageRequest) where
+  abbrev pub source_for : ImageSource
+  source_for = record { whole = whole; file = file; at = entries_header file; items = request_items request }
+
+  pub has_source : {a b : CountedState} {n : ℕ} {image : ImageFile} (hides : Bool) (header : Phdr) (target : ImageTarget) → IsMaskedFile a hides whole file → ReadsUpTo a b n → a.seen.size < 2 ^ 64
+      → HoldsProgramHeaders file image.view.loaded image.view.store.now → pass (overlap_checks file) ≡ true → known_items image ≡ request_items request → IsBased image
+      → SaysRelocations file (entries_header file) image.told → HoldsChunks file image.told.ranges.first.at image.chunks → first_refusal (segments_load_checks file) ≡ None
+      → first_refusal (requested_checks file request.segment request.most) ≡ None → IsPhdr file (segment_at file request.segment) header → (target.index ≡ request.segment) × (target.first ≡ header.p_vaddr) × (target.size ≡ header.p_memsz)
+      → (target.bytes.at ≡ header.p_offset) × (target.bytes.size ≡ header.p_filesz) → target.hides ≡ hides → target.size < 2 ^ 64 → HasSource b image source_for target
+  has_source {a} {b} hides header target mask reads few views apart items based told chunks loads asked is place held shows small = record {
+    file = reads.keeps.same_file ∙ mask.seen;
+    whole = ap (λ h. file_by h b.source.file) shows ∙ (ap (file_by hides) reads.view.keeps.same_file ∙ mask.whole_is);
+    small = omega (arith, reads.keeps.same_size, few);
+    image_is = record { held = views; apart = apart; items = items; based = based; told = told; chunks = chunks };
+    target_is = target_is file request.segment request.most loads source_for header target refl mask.long asked is place.0 place.1 held.0 held.1 place.2 small;
+  }
 
 -- ALL IS CHECKED: within the limit no refusal comes after that
 pub written_image : (X : Type 0) (before after : CountedState) (old new : OutState) (result : Result X RunFault) (bytes : List ℕ) (cost : ℕ) (answer : Result (List ℕ) Refusal) → answer ≡ Ok bytes

@@ -17,6 +17,7 @@ pub mod RelaRowSteps
 pub mod MarkSteps
 pub mod MissingSteps
 pub mod RelativeSteps
+pub mod RelativeEntrySteps
 pub mod SegmentPartSteps
 pub mod StoredSteps
 pub mod SymbolSteps
@@ -34,6 +35,8 @@ pub mod WindowSteps
 pub mod WriteLaws
 pub mod SegmentWindowSteps
 pub mod StopSteps
+pub mod LimitSteps
 pub mod MaskSteps
 pub mod WordSteps
 pub mod CeilingSteps
+pub mod ChunkSteps

@@ -1,8 +1,8 @@
 -- Which windows are marked.
-use Rattle.std.proofs.Common.{◌≡◌, ℕ, zero, suc, ◌+◌, ◌-◌, ◌*◌, ◌/◌, ◌<◌, ◌≤◌, ◌&&◌, ◌||◌, ◌==◌, nat_lt, not, min, max, Bool, false, true, List, [], ◌∷◌, ◌++◌, filter, length, cond, get_or, replicate, ap, sym, ◌∙◌, length-append, refl, arith}
+use Rattle.std.proofs.Common.{◌≡◌, ℕ, zero, suc, ◌+◌, ◌-◌, ◌*◌, ◌/◌, ◌%◌, ◌<◌, ◌≤◌, ◌&&◌, ◌||◌, ◌==◌, nat_lt, not, min, max, Bool, false, true, List, [], ◌∷◌, ◌++◌, filter, length, cond, get_or, replicate, ap, sym, ◌∙◌, length-append, refl, arith}
 use Rattle.std.proofs.lemmas.Bool.Decides.{nat_tests}
 use Rattle.std.proofs.lemmas.List.{get_or-replicate}
-use Rattle.std.proofs.Math.Nat.{le-div_iff_mul-le, div-lt_iff_lt-mul}
+use Rattle.std.proofs.Math.Nat.{div-add-mod, div-lt_iff_lt-mul, le-div_iff_mul-le}
 use Rattle.elf_image.specs.Marks.{is_window_marked, marked_windows, meets_range}
 use Rattle.elf_model.specs.Apply.{places_from}
 use Rattle.std.proofs.lemmas.List.Elements.{filter-append}
@@ -64,3 +64,15 @@ marked-more met count next b after is =
 pub marked-none : (met : List Bool) → 0 ≡ marked_windows met 0
 unfolding marked_windows places_from
 marked-none met = refl
+
+-- bytes in one window
+pub one-window : (offset width size : ℕ) → 0 < size → 0 < width → width ≤ size - offset % size → (offset + (width - 1)) / size ≡ offset / size
+one-window offset width size some wide fits =
+    let k : ℕ = offset / size in
+    let end : ℕ = offset + (width - 1) in
+    let parts : size * k + offset % size ≡ offset = div-add-mod offset size in
+    let next : (k + 1) * size ≡ size * k + size = omega arith in
+    let here : k * size ≡ size * k = omega arith in
+    let low = (le-div_iff_mul-le {k = size} {x = k} {y = end} some).1 (omega (arith, parts, here)) in
+    let high = (div-lt_iff_lt-mul {k = size} {x = end} {y = k + 1} some).1 (omega (arith, parts, next, fits, wide)) in
+    omega (arith, low, high)

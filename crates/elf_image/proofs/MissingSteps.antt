@@ -17,6 +17,7 @@ use Rattle.elf_table.specs.declared.fault.Fault.TheVariants.{Refused, Source}
 use Rattle.elf_image.specs.Changes.{AreChangesOf, TakesChange, image_changes_left}
 use Rattle.elf_image.specs.EntryOrder.{IsFarChange}
 use Rattle.elf_image.specs.Items.{given, number_of, said_by}
+use Rattle.elf_image.specs.Chunks.{HoldsChunks}
 use Rattle.elf_image.specs.Missing.{FindsLack, IsMissingOf, lacks_left, missing_source, opening_checks}
 use Rattle.elf_image.specs.Relocated.{IsImageOf, ReadsAfter, RefusesImage, SaysRelocations, entries_header, relocation_checks}
 use Rattle.elf_image.specs.Values.{IsBased, known_items}
@@ -124,8 +125,8 @@ module _ (file : List ℕ) (passes : first_refusal (overlap_checks file ++ kind_
 
   pub image_of : (whole : List ℕ) (items : ItemValues) (image : ImageFile) → HoldsProgramHeaders file image.view.loaded image.view.store.now → known_items image ≡ items
       → image.base ≡ unwrap_or (number_of (given image.items.now.numbers.now image.items.now.copies.now) LoadAddress 0) 0
-      → SaysRelocations file (entries_header file) image.told → IsImageOf (missing_source whole file items) image
-  image_of whole items image held same based told = record { held = held; apart = apart; items = same; based = based_as image based; told = told }
+      → SaysRelocations file (entries_header file) image.told → HoldsChunks file image.told.ranges.first.at image.chunks → IsImageOf (missing_source whole file items) image
+  image_of whole items image held same based told chunks = record { held = held; apart = apart; items = same; based = based_as image based; told = told; chunks = chunks }
 
 module _ (whole file : List ℕ) (items : ItemValues) (missing : MissingEntries) where
   abbrev begun : ImageSource

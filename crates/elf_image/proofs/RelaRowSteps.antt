@@ -5,30 +5,30 @@ use Rattle.elf_model.specs.Bytes.{field, number, slice}
 use Rattle.elf_model.proofs.Slices.{field-slice, get_or-slice, slice-slice}
 use Rattle.elf_table.specs.WindowCalls.{Skips}
 use Rattle.elf_table.specs.Windows.{HoldsBytes, HoldsCount, WindowState, range_end}
-use Rattle.elf_image.specs.RelaRows.{AreFarRows, IsFarEntry, IsRowFar, PassesHeld, is_in_reach}
-use Rattle.elf_image.specs.Within.{RelaRowsAlive}
+use Rattle.elf_image.specs.RelaRows.{AreFarRows, IsFarEntry, IsRowFar, PassesEntries, is_in_reach}
+use Rattle.elf_image.specs.Within.{RelaRowsAlive, entries_ahead}
 use Rattle.elf_image.specs.declared.rela_rows.RelaRows.{RelaRows}
 use Rattle.elf_image.specs.declared.rela_rows.WindowReach.{WindowReach}
 
-pub passes : (old : RelaRows) (count : ℕ) (window : WindowState) → 24 * count ≤ length old.window.held
+pub passes : (old : RelaRows) (count : ℕ) (window : WindowState) → count ≤ entries_ahead old
     → Skips old.window window (count * 24)
-    → PassesHeld old (record { table = old.table; index = old.index + count; window = window }) count
+    → PassesEntries old (record { table = old.table; index = old.index + count; window = window }) count
 passes old count window few skips =
     let long : length window.held ≡ length old.window.held - count * 24 = ap length skips.held ∙ length-drop (count * 24) old.window.held in
     record {
       table = refl;
       index = refl;
-      unread = omega (arith, long, skips.left, few);
+      unread = skips.unread;
       alive = λ size a. record {
         table = a.table;
-        index = omega (arith, few, a.place, a.end);
+        index = omega (arith, few, a.index);
         place = omega (arith, skips.at, a.place);
         end = skips.end ∙ a.end;
         page = skips.page ∙ a.page;
         small = a.small;
         few = omega (arith, long, a.few);
         held = a.held - count;
-        whole = omega (arith, long, a.whole, few);
+        whole = omega (arith, long, a.whole);
       };
       agrees = skips.agrees;
     }

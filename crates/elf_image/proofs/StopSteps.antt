@@ -1,5 +1,5 @@
 -- What a fault implies for the source and the output.
-use Rattle.std.proofs.Common.{◌≡◌, ℕ, Bool, true, Result, Ok, Err, IfErr}
+use Rattle.std.proofs.Common.{◌≡◌, ℕ, Bool, true, Result, Ok, Err, IfErr, sym, ◌∙◌}
 use Rattle.elf_source.proofs.HidingLaws.{IsSourceFault-hidden}
 use Rattle.elf_source.proofs.ReadsLaws.{IsSourceFault-then}
 use Rattle.elf_source.specs.Prelude.{CountedState, MasksSectionHeaders, OutState, ReadsUpTo}
@@ -14,7 +14,7 @@ use Rattle.elf_image.specs.Written.{BudgetDecides, StopsImage}
 -- of a read
 pub read-stops : (a b : CountedState) (out : OutState) (n : ℕ) (fault : Fault) → IsReadFault a b n fault → StopsImage a b out (stop_of fault)
 read-stops a b out n (fault.Refused refusal) says = tt
-read-stops a b out n (fault.Source reason at) says = says.0
+read-stops a b out n (fault.Source reason at) says = says
 
 -- of a check
 pub check-stops : (a b : CountedState) (out : OutState) (fault : Fault) → IsOfCheck fault → StopsImage a b out (stop_of fault)
@@ -32,7 +32,7 @@ budget-stops a b c out X at cost (fault.Source reason offset) says = absurd says
 -- after reads
 pub stops-after : {a b : CountedState} {n : ℕ} (c : CountedState) (out : OutState) (fault : RunFault) → ReadsUpTo a b n → StopsImage b c out fault → StopsImage a c out fault
 stops-after c out (Refused refusal) reads says = tt
-stops-after {a} {b} c out (Source reason at) reads says = IsSourceFault-then a.seen b.seen c.seen reason reads.keeps says
+stops-after {a} {b} c out (Source reason at) reads says = (IsSourceFault-then a.seen b.seen c.seen reason reads.keeps says.0, says.1)
 stops-after c out (Out reason) reads says = says
 
 pub stops-later : {X : Type 0} {a b : CountedState} {n : ℕ} (c : CountedState) (out : OutState) (result : Result X RunFault) → ReadsUpTo a b n
@@ -45,5 +45,5 @@ pub stops-masked : {X : Type 0} {a b c d : CountedState} (hides : Bool) (out : O
     → MasksSectionHeaders c d hides → IfErr result (StopsImage b c out) → IfErr result (StopsImage a d out)
 stops-masked hides out (Ok x) is hide show says = tt
 stops-masked hides out (Err (Refused refusal)) is hide show says = tt
-stops-masked hides out (Err (Source reason at)) is hide show says = IsSourceFault-hidden reason hide (rw is at show) says
+stops-masked hides out (Err (Source reason at)) is hide show says = (IsSourceFault-hidden reason hide (rw is at show) says.0, says.1 ∙ sym show.same_stopped)
 stops-masked hides out (Err (Out reason)) is hide show says = says

@@ -1,5 +1,5 @@
 -- What is left of a walk over the changes of a file's relocations, and what its steps take of that.
-use Rattle.std.specs.Prelude.{ℕ, ◌≡◌, ◌+◌, ◌*◌, ◌%◌, ◌^◌, ◌≤◌, ◌==◌, ◌⊎◌, Bool, true, false, List, [], ◌∷◌, ◌++◌, Option, None, Some, Result, Ok, Err}
+use Rattle.std.specs.Prelude.{ℕ, ◌≡◌, ◌+◌, ◌*◌, ◌%◌, ◌^◌, ◌<◌, ◌≤◌, ◌==◌, ◌⊎◌, Bool, true, false, List, [], ◌∷◌, ◌++◌, Option, None, Some, Result, Ok, Err}
 use Rattle.elf_model.specs.Bytes.{field, little}
 use Rattle.elf_model.specs.Image.{ImageChange, ImageSource, Lacks, Refuses, SegmentWrite, Stores as StoresSome, relative_changes, unrelocated}
 use Rattle.elf_model.specs.Numbers.{R_X86_64_IRELATIVE}
@@ -12,11 +12,12 @@ use Rattle.elf_record.specs.declared.rela.Rela.{Rela}
 use Rattle.elf_table.specs.Cursors.{unread_bytes}
 use Rattle.elf_table.specs.declared.fault.Fault.{Fault}
 use Rattle.elf_table.specs.declared.fault.Fault.TheVariants.{Refused, Source}
-use Rattle.elf_image.specs.EntryOrder.{AreOrderedEntries, PassesBy, entry_changes_left, entries_reads}
+use Rattle.elf_image.specs.EntryOrder.{AreOrderedEntries, IsHeldRelative, PassesBy, entry_changes_left, entries_reads}
 use Rattle.elf_image.specs.RelaRows.{is_in_reach}
 use Rattle.elf_image.specs.RelativeRows.{AreRowsOf, relative_left}
-use Rattle.elf_image.specs.Relocated.{FindsPlace, RefusesImage, write_as, write_at}
+use Rattle.elf_image.specs.Relocated.{FindsPlace, IsImageOf, RefusesImage, write_as, write_at}
 use Rattle.elf_image.specs.Values.{IsGiven}
+use Rattle.elf_image.specs.Within.{WalkAlive, walk_steps}
 use Rattle.elf_image.specs.declared.changes.ImageFile.{ImageFile}
 use Rattle.elf_image.specs.declared.changes.PlacedBytes.{PlacedBytes}
 use Rattle.elf_image.specs.declared.changes.RelocatedBytes.TheVariants as stored
@@ -24,6 +25,7 @@ use Rattle.elf_image.specs.declared.place.Place.{Place}
 use Rattle.elf_image.specs.declared.rela_rows.WindowReach.{WindowReach}
 use Rattle.elf_image.specs.declared.relative_rows.RelativeRow.{RelativeRow}
 use Rattle.elf_image.specs.declared.walk.ImageWalk.{ImageWalk}
+use Rattle.elf_image.specs.declared.walk.RelativeEntry.{RelativeEntry}
 use Rattle.elf_image.specs.declared.walk.WalkStep.{WalkStep}
 use Rattle.elf_image.specs.declared.walk.WalkStep.TheVariants as step
 
@@ -136,3 +138,20 @@ walk_reads walk = unread_bytes walk.rows.cursor + entries_reads walk.entries
 abbrev pub image_pass : ImageFile → ℕ
 image_pass image =
     RELR_SIZE * image.told.compact.count + (RELA_SIZE + SYMBOL_SIZE + RELA_SIZE) * (image.told.ranges.first.count + image.told.ranges.second.count)
+
+-- AN ENTRY OF R_X86_64_RELATIVE that was read, and its place
+pub record IsRelativeEntry (image : ImageFile) (walk : ImageWalk) (found : RelativeEntry) : Type 0 where
+  pub past : walk.past_rows ≡ true
+  pub held : IsHeldRelative walk.entries found.row
+  pub place : (source : ImageSource) (at : ℕ) → IsImageOf source image → FindsPlace source at found.row.entry.r_offset 8 (Ok found.place)
+
+-- it is taken: it stores a word
+pub record TakesRelative (image : ImageFile) (old new : ImageWalk) (placed : PlacedBytes) : Type 0 where
+  pub reads : walk_reads new ≤ walk_reads old
+  pub alive : (size : ℕ) → WalkAlive size image old → WalkAlive size image new
+  pub less : walk_steps new < walk_steps old
+  pub wanted : new.wanted ≡ old.wanted
+  pub takes : (source : ImageSource) → IsImageOf source image → AreChangesOf source.file image old
+      → TakesChange source image.leaves old.wanted (image_changes_left source old) (image_changes_left source new) (Ok (step.Stores placed))
+  pub turn : (file : List ℕ) → GoesInTurn file old new (step.Stores placed)
+  pub known : (file : List ℕ) → AreChangesOf file image old → AreChangesOf file image new

@@ -12,7 +12,8 @@ use Rattle.elf_table.specs.Prelude.{TableRange}
 use Rattle.elf_table.specs.Windows.{HoldsBytes}
 use Rattle.elf_table.specs.declared.fault.Fault.{Fault}
 use Rattle.elf_table.specs.declared.fault.Fault.TheVariants.{Refused, Source}
-use Rattle.elf_image.specs.RelaRows.{is_in_reach}
+use Rattle.elf_image.specs.Chunks.{HoldsChunks}
+use Rattle.elf_image.specs.RelaRows.{IsHeldRow, is_in_reach}
 use Rattle.elf_image.specs.Within.{entries_ahead}
 use Rattle.elf_image.specs.declared.entries.EntryPart.{EntryPart}
 use Rattle.elf_image.specs.declared.entries.EntryStep.{EntryStep}
@@ -107,6 +108,7 @@ pub record AreOrderedEntries (file : List ℕ) (entries : OrderedEntries) : Type
       → NoneResolved file (range_table entries.ranges entries.part.second) entries.rows.index
   pub past : (second : Bool) → direct_part entries.ranges.joined second + 1 < entries.begun → is_noted entries.indirect second ≡ false
       → NoneResolved file (range_table entries.ranges second) (range_table entries.ranges second).count
+  pub chunks : HoldsChunks file entries.ranges.first.at entries.chunks
 
 -- the next part is begun
 pub record BeginsPart (old new : OrderedEntries) : Type 0 where
@@ -114,11 +116,18 @@ pub record BeginsPart (old new : OrderedEntries) : Type 0 where
   pub begun : new.begun ≡ old.begun + 1
   pub noted : new.indirect ≡ old.indirect
   pub wanted : new.wanted ≡ old.wanted
+  pub chunks : new.chunks ≡ old.chunks
   pub kind : IsNumberedPart old.ranges.joined old.begun new.part
   pub table : IsPartTable old.ranges old.indirect new.part new.rows.table
   pub index : new.rows.index ≡ 0
   pub unread : new.rows.window.unread ≡ RELA_SIZE * new.rows.table.count
   pub held : (file : List ℕ) → HoldsBytes file new.rows.window
+
+-- the next entry is held, and is of R_X86_64_RELATIVE, in a part of such entries
+pub record IsHeldRelative (entries : OrderedEntries) (row : RelaRow) : Type 0 where
+  pub held : IsHeldRow entries.rows row
+  pub direct : entries.part.indirect ≡ false
+  pub kind : row.entry.r_info % 2 ^ 32 ≡ R_X86_64_RELATIVE
 
 -- FAR FROM A WINDOW. What a change stores is at most 16 bytes, at an address that is not in reach
 pub record IsFarWrite (file : List ℕ) (reach : WindowReach) (write : SegmentWrite) : Type 0 where

@@ -1,14 +1,14 @@
 -- The image of a segment as it is asked for, and what a call that writes it does.
-use Rattle.std.specs.Prelude.{ℕ, ◌≡◌, ◌+◌, ◌*◌, ◌^◌, ◌<◌, Bool, List, length, Some, Result, Ok, Err, ◌-◌, ◌/◌}
+use Rattle.std.specs.Prelude.{ℕ, ◌≡◌, ◌+◌, ◌*◌, ◌^◌, ◌<◌, ◌≤◌, ◌⊎◌, Bool, List, length, Some, Result, Ok, Err, ◌-◌, ◌/◌}
 use Rattle.elf_model.specs.Image.{ImageSource, image_by_segments, image_changes, relocation_changes, writes_in, writes_of}
-use Rattle.elf_model.specs.ImageCost.{met_windows, windows_of}
+use Rattle.elf_model.specs.ImageCost.{image_cost, met_windows, windows_of}
 use Rattle.elf_model.specs.ImageItems.{ItemValues}
-use Rattle.elf_model.specs.Prelude.{IsBudgetRefusal}
+use Rattle.elf_model.specs.Prelude.{IsBudgetRefusal, p_memsz, segment_at}
 use Rattle.elf_model.specs.declared.causes.Refusal.{Refusal}
 use Rattle.elf_source.specs.Prelude.{CountedState, OutState, SinkTakes, SinkTakesPrefix, file_by}
 use Rattle.elf_table.specs.declared.run_fault.RunFault.{RunFault}
 use Rattle.elf_table.specs.declared.run_fault.RunFault.TheVariants.{Out, Refused, Source}
-use Rattle.elf_reloc.specs.Applied.{text_of}
+use Rattle.elf_reloc.specs.Applied.{OverBudget, text_of}
 use Rattle.elf_image.specs.Changes.{image_pass}
 use Rattle.elf_image.specs.Items.{given, said_by}
 use Rattle.elf_image.specs.Relocated.{IsImageOf}
@@ -25,6 +25,18 @@ WritesImage old new (Err (Refused refusal)) answer = ((IsBudgetRefusal refusal �
 WritesImage old new (Err (Source reason at)) answer = SinkTakesPrefix old new (text_of answer)
 WritesImage old new (Err (Out reason)) answer = SinkTakesPrefix old new (text_of answer)
 
+-- WHEN `Budget` IS REFUSED: a segment has more bytes than are allowed, and it is the answer; or a limit
+-- was set that n bytes more would have exceeded, and it is at an offset of the source or at its end
+abbrev pub RefusesOverLimit : CountedState → (n : ℕ) → (is_large : Type 0) → Result (List ℕ) Refusal → RunFault → Type 0
+RefusesOverLimit src n is_large answer (Refused refusal) =
+    IsBudgetRefusal refusal → (is_large × (answer ≡ Err refusal)) ⊎ ((refusal.at ≤ src.seen.size) × OverBudget src n)
+RefusesOverLimit src n is_large answer (Source reason at) = Unit {0}
+RefusesOverLimit src n is_large answer (Out reason) = Unit {0}
+
+-- the segment of a program header has more bytes than are allowed
+abbrev pub IsTooLarge : List ℕ → (segment most : ℕ) → Type 0
+IsTooLarge file segment most = most < p_memsz file (segment_at file segment)
+
 -- what the items of a request say
 abbrev pub request_items : ImageRequest → ItemValues
 request_items request = said_by (given request.items.now.numbers.now request.items.now.copies.now) request.leaves
@@ -39,6 +51,10 @@ windows_met whole file window request = elim (writes_of request.leaves (image_ch
   | Err refusal ↦ 0
   | Ok writes ↦ met_windows window (windows_of file request.segment window) (writes_in request.segment writes)
 ]
+
+-- how many bytes are requested at most for the image that is asked for
+abbrev pub request_cost : (whole file : List ℕ) → (window : ℕ) → ImageRequest → ℕ
+request_cost whole file window request = image_cost file request.segment window (windows_met whole file window request)
 
 -- the file of a loaded one, without section headers, and the same with all bytes that may be written
 pub record IsMaskedFile (src : CountedState) (hides : Bool) (whole file : List ℕ) : Type 0 where

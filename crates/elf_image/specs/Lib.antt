@@ -1,4 +1,5 @@
 pub mod Changes
+pub mod Chunks
 pub mod EntryOrder
 pub mod Headers
 pub mod Items

@@ -1,5 +1,5 @@
 -- A cursor over the entries of a table, and those that it passes since they cannot store into a window.
-use Rattle.std.specs.Prelude.{ℕ, ◌≡◌, ◌+◌, ◌*◌, ◌%◌, ◌^◌, ◌<◌, ◌≤◌, ◌&&◌, nat_lt, not, Bool, false, List, Option, None, Some}
+use Rattle.std.specs.Prelude.{ℕ, ◌≡◌, ◌+◌, ◌*◌, ◌%◌, ◌^◌, ◌<◌, ◌≤◌, ◌&&◌, nat_lt, not, Bool, false, List, length, Option, None, Some}
 use Rattle.elf_model.specs.Prelude.{field}
 use Rattle.elf_model.specs.Bytes.{slice}
 use Rattle.elf_model.specs.Records.{r_addend, r_offset, r_type}
@@ -40,11 +40,11 @@ IsFarRow file rela (Some reach) = IsFarEntry file rela reach
 abbrev pub entry_place : RelaRows → (index : ℕ) → ℕ
 entry_place rows index = rows.table.at + 24 * index
 
--- entries that were read are passed
-pub record PassesHeld (old new : RelaRows) (count : ℕ) : Type 0 where
+-- entries are passed
+pub record PassesEntries (old new : RelaRows) (count : ℕ) : Type 0 where
   pub table : new.table ≡ old.table
   pub index : new.index ≡ old.index + count
-  pub unread : new.window.unread ≡ old.window.unread
+  pub unread : new.window.unread ≤ old.window.unread
   pub alive : (size : ℕ) → RelaRowsAlive size old → RelaRowsAlive size new
   pub agrees : (file : List ℕ) → HoldsBytes file old.window → HoldsBytes file new.window
 
@@ -53,6 +53,12 @@ pub record IsRelaRow (file : List ℕ) (old : RelaRows) (row : RelaRow) : Type 0
   pub place : row.at ≡ entry_place old old.index
   pub entry : IsRela file row.at row.entry
   pub addend : r_addend file row.at < 2 ^ 64
+
+-- the next entry, of which the bytes are held
+pub record IsHeldRow (rows : RelaRows) (row : RelaRow) : Type 0 where
+  pub held : 24 ≤ length rows.window.held
+  pub index : row.index ≡ rows.index
+  pub taken : (file : List ℕ) → HoldsBytes file rows.window → IsRelaRow file rows row
 
 -- how a call goes on: to the next entry, which it returns, or over some
 abbrev pub PassesRows : (old new : RelaRows) → Option WindowReach → Option RelaRow → Type 0

@@ -23,6 +23,7 @@ use Rattle.elf_record.specs.declared.sym.Sym.{Sym}
 use Rattle.elf_table.specs.Prelude.{HoldsProgramHeaders, RefusedBy, TableRange}
 use Rattle.elf_table.specs.declared.fault.Fault.{Fault}
 use Rattle.elf_table.specs.declared.fault.Fault.TheVariants.{Refused, Source}
+use Rattle.elf_image.specs.Chunks.{HoldsChunks}
 use Rattle.elf_image.specs.Values.{IsBased, IsGiven, IsUsed, known_items, stored_as}
 use Rattle.elf_image.specs.declared.changes.EntryResult.{EntryResult}
 use Rattle.elf_image.specs.declared.changes.EntryResult.TheVariants as result
@@ -120,6 +121,7 @@ pub record IsImageOf (source : ImageSource) (image : ImageFile) : Type 0 where
   pub items : known_items image ≡ source.items
   pub based : IsBased image
   pub told : SaysRelocations source.file source.at image.told
+  pub chunks : HoldsChunks source.file image.told.ranges.first.at image.chunks
 
 -- PLACES. A place has bytes at an address: its segment is the one that holds them
 pub record IsHeldPlace (file : List ℕ) (address width : ℕ) (place : Place) : Type 0 where

@@ -66,7 +66,7 @@ pub record RelaRowsAlive (size : ℕ) (rows : RelaRows) : Type 0 where
   pub place : rows.window.at ≡ rows.table.at + 24 * rows.index
   pub end : range_end rows.window ≡ rows.table.at + 24 * rows.table.count
   pub page : rows.window.page ≡ 4080
-  pub small : rows.table.count < 2 ^ 64
+  pub small : rows.table.at + 24 * rows.table.count < 2 ^ 64
   pub few : length rows.window.held ≤ 4080
   pub held : ℕ
   pub whole : length rows.window.held ≡ 24 * held

@@ -106,9 +106,9 @@ BudgetDecides src at cost (Ok x) = AllowsBytes src cost
 BudgetDecides src at cost (Err (fault.Refused refusal)) = (refusal ≡ record { at = at; cause = Budget }) × OverBudget src cost
 BudgetDecides src at cost (Err (fault.Source reason offset)) = ⊥
 
--- what a fault implies for the source and the output: that of the source is of a read that failed, and
--- after that of the output the sink has failed
+-- what a fault implies for the source and the output: that of the source points to the read that
+-- stopped, and after that of the output the sink has failed
 abbrev pub StopsImage : (old new : CountedState) → OutState → RunFault → Type 0
 StopsImage old new out (Refused refusal) = Unit {0}
-StopsImage old new out (Source reason at) = IsSourceFault old.seen new.seen reason
+StopsImage old new out (Source reason at) = IsSourceFault old.seen new.seen reason × (at ≡ new.stopped)
 StopsImage old new out (Out reason) = IsOutFault out reason

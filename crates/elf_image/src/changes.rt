@@ -19,6 +19,7 @@ ghost use Rattle.elf_image.specs.Relocated.{entries_header};
 ghost use Rattle.elf_image.specs.Relocated.{is_table_holder, is_holder};
 ghost use Rattle.elf_image.specs.Within.{RelocationsWithin};
 
+use crate::chunks::EntryChunks;
 use crate::dynamic_rows::{ImageRows, image_rows, no_rows};
 use crate::image_items::{CopyBytes, ImageItems};
 use crate::place::{Place, holder};
@@ -47,6 +48,8 @@ pub(crate) struct ImageFile<'v, 'a> {
     pub(crate) leaves: bool,
     /// What its dynamic entries say.
     pub(crate) told: Relocations,
+    /// At which addresses the entries of its first table store, as far as they are noted.
+    pub(crate) chunks: EntryChunks,
 }
 
 /// What the dynamic entries of a file say of its relocations.

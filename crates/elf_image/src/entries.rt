@@ -1,9 +1,12 @@
 //! The relocation entries in the order in which a loader applies them.
 ghost use Rattle.std.specs.Prelude.{◌≡◌, ◌+◌, ◌*◌, ◌<◌, ◌≤◌, nat_lt, ℕ, Bool, false, true, IfErr};
-ghost use Rattle.std.specs.Prelude.{IfOk, List, [], ◌∷◌, Some};
+ghost use Rattle.std.specs.Prelude.{IfOk, IfSome, List, [], ◌∷◌, Some};
 ghost use Rattle.elf_model.specs.Image.{ImageSource, is_resolved};
 ghost use Rattle.elf_record.specs.Rela.{IsRela};
 ghost use Rattle.elf_table.specs.Prelude.{CallReads, IsOfCheck, fault_of_result};
+ghost use Rattle.elf_image.specs.Chunks.{HoldsChunks};
+ghost use Rattle.elf_image.specs.RelaRows.{IsFarRow, PassesEntries, entry_place};
+ghost use Rattle.elf_image.specs.EntryOrder.{IsHeldRelative};
 ghost use Rattle.elf_image.specs.EntryOrder.{AreOrderedEntries, BeginsPart, HasOrderedEntry, IsNumberedPart, IsPartTable};
 ghost use Rattle.elf_image.specs.EntryOrder.{TakesOrderedEntry, TakesRow, entry_changes_left, entries_reads, is_noted};
 ghost use Rattle.elf_image.specs.EntryOrder.{is_unsupported};
@@ -13,6 +16,7 @@ ghost use Rattle.elf_image.specs.Within.{EntriesAlive, RelaRowsAlive, RangesWith
 ghost use Rattle.elf_image.specs.Within.{IsTableWithin, entries_ahead};
 ghost use Rattle.elf_image.specs.declared.entries.EntryStep.TheVariants.{Past};
 
+use crate::chunks::EntryChunks;
 use crate::ranges::EntryRanges;
 use crate::rela_rows::{RelaRow, RelaRows, WindowReach};
 use elf_record::gnu_numbers::R_X86_64_IRELATIVE;
@@ -64,17 +68,25 @@ pub(crate) struct OrderedEntries {
     indirect: (bool, bool),
     /// The window that is wanted: entries that cannot store into it are passed by.
     wanted: Option<WindowReach>,
+    /// At which addresses entries of the first table store: all that are returned are noted if no
+    /// window is wanted.
+    pub(crate) chunks: EntryChunks,
 }
 
 impl OrderedEntries {
     /// Creates a cursor before the first entry.
-    pub(crate) fn new(ranges: EntryRanges, wanted: Option<WindowReach>) -> OrderedEntries
+    pub(crate) fn new(
+        ranges: EntryRanges,
+        wanted: Option<WindowReach>,
+        chunks: EntryChunks,
+    ) -> OrderedEntries
         ensures alive { (size : ℕ) → RangesWithin size ranges → EntriesAlive size result }
         ensures ranges { result.ranges ≡ ranges }
         ensures wanted { result.wanted ≡ wanted }
         ensures begins { (source : ImageSource) →
             entry_changes_left source result ≡ parts_left source ranges 0 }
-        ensures known { (file : List ℕ) → AreOrderedEntries file result }
+        ensures known { (file : List ℕ) → HoldsChunks file ranges.first.at chunks →
+            AreOrderedEntries file result }
         ensures reads { entries_reads result ≤ 72 * (ranges.first.count + ranges.second.count) }
     {
         let table = Table::new(0, 0, RELOCATION_BYTES);
@@ -89,6 +101,7 @@ impl OrderedEntries {
             begun: 0,
             indirect: (false, false),
             wanted,
+            chunks,
         }
     }
 
@@ -121,9 +134,92 @@ impl OrderedEntries {
             self.begin_part();
             return Ok(EntryStep::Nothing);
         }
+        let far = self.far_entries();
+        if far > 0 {
+            self.rows.pass(far);
+            return Ok(EntryStep::Nothing);
+        }
         match self.rows.next(src, self.wanted)? {
             Some(row) => self.taken(row),
             None => Ok(EntryStep::Nothing),
+        }
+    }
+
+    /// Returns how many of the next entries are known not to store into the window that is wanted.
+    fn far_entries(&self) -> u64
+        requires { self.now.rows.index ≤ self.now.rows.table.count }
+        ensures few { result ≤ entries_ahead self.now.rows }
+        ensures far { (file : List ℕ) (i : ℕ) → AreOrderedEntries file self.now →
+            self.now.rows.index ≤ i → i < self.now.rows.index + result →
+            IsFarRow file (entry_place self.now.rows i) self.now.wanted }
+    {
+        let Some(reach) = self.wanted else {
+            return 0;
+        };
+        if self.part.indirect || self.part.second {
+            return 0;
+        }
+        let ahead = self.rows.table.len() - self.rows.index;
+        let far = self.chunks.far_from(self.rows.index, &reach);
+        far.min(ahead)
+    }
+
+    /// Returns the next entry if it was read, is of R_X86_64_RELATIVE and in a part of such entries,
+    /// and may store into the window that is wanted.
+    pub(crate) fn relative(&self) -> Option<RelaRow>
+        requires { (size : ℕ) × RelaRowsAlive size self.now.rows }
+        ensures { IfSome result (IsHeldRelative self.now) }
+    {
+        if self.part.indirect {
+            return None;
+        }
+        let row = self.rows.held()?;
+        if row.entry.kind() != R_X86_64_RELATIVE || !self.may_want(row.entry.r_offset) {
+            return None;
+        }
+        Some(row)
+    }
+
+    /// Returns `true` if an entry at an address may store into the window that is wanted.
+    fn may_want(&self, address: u64) -> bool {
+        match &self.wanted {
+            Some(reach) => reach.has(address),
+            None => true,
+        }
+    }
+
+    /// Passes the entry that [`Self::relative`] returned.
+    pub(crate) fn pass_relative(&mut self, row: &RelaRow)
+        requires alive { (size : ℕ) × RelaRowsAlive size self.old.rows }
+        requires held { IsHeldRelative self.old row.now }
+        ensures rows { PassesEntries self.old.rows self.new.rows 1 }
+        ensures ranges { self.new.ranges ≡ self.old.ranges }
+        ensures begun { self.new.begun ≡ self.old.begun }
+        ensures part { self.new.part ≡ self.old.part }
+        ensures noted { self.new.indirect ≡ self.old.indirect }
+        ensures wanted { self.new.wanted ≡ self.old.wanted }
+        ensures chunks { (file : List ℕ) → AreOrderedEntries file self.old →
+            HoldsChunks file self.old.ranges.first.at self.new.chunks }
+    {
+        self.note(row);
+        self.rows.pass(1);
+    }
+
+    /// Notes at which address an entry of the part stores, unless a window is wanted.
+    fn note(&mut self, row: &RelaRow)
+        ensures rows { self.new.rows ≡ self.old.rows }
+        ensures ranges { self.new.ranges ≡ self.old.ranges }
+        ensures begun { self.new.begun ≡ self.old.begun }
+        ensures part { self.new.part ≡ self.old.part }
+        ensures noted { self.new.indirect ≡ self.old.indirect }
+        ensures wanted { self.new.wanted ≡ self.old.wanted }
+        ensures chunks { (file : List ℕ) → IsRela file row.now.at row.now.entry → row.now.at
+            ≡ (range_table self.old.ranges self.old.part.second).at + 24 * row.now.index →
+            HoldsChunks file self.old.ranges.first.at self.old.chunks →
+            HoldsChunks file self.old.ranges.first.at self.new.chunks }
+    {
+        if self.wanted.is_none() && !self.part.second {
+            self.chunks.note(row.index, &row.entry);
         }
     }
 
@@ -229,6 +325,11 @@ impl OrderedEntries {
             is_resolved file row.at ≡ false) }
         ensures goes { IfOk result (λ step. step ≡ Past → ⊥) }
         ensures check { IfErr result IsOfCheck }
+        ensures chunks { (file : List ℕ) → IsRela file row.at row.entry →
+            (self.old.part.indirect ≡ false → row.at
+            ≡ (range_table self.old.ranges self.old.part.second).at + 24 * row.index) →
+            HoldsChunks file self.old.ranges.first.at self.old.chunks →
+            HoldsChunks file self.old.ranges.first.at self.new.chunks }
         ensures symbol { symbol_reads result ≤ symbols_left self.old.part.indirect 1 }
         ensures takes { (source : ImageSource) → IsRela source.file row.at row.entry →
             TakesRow source row (part_changes source self.old.part.indirect
@@ -244,6 +345,7 @@ impl OrderedEntries {
         if self.is_unsupported(row.index, kind) {
             return refused(row.at, Cause::Unsupported);
         }
+        self.note(&row);
         if kind == R_X86_64_IRELATIVE {
             self.note_indirect();
             return Ok(EntryStep::Nothing);
@@ -258,6 +360,7 @@ impl OrderedEntries {
         ensures begun { self.new.begun ≡ self.old.begun }
         ensures part { self.new.part ≡ self.old.part }
         ensures wanted { self.new.wanted ≡ self.old.wanted }
+        ensures chunks { self.new.chunks ≡ self.old.chunks }
         ensures noted { is_noted self.new.indirect self.old.part.second ≡ true }
         ensures keeps { (second : Bool) → is_noted self.new.indirect second ≡ false →
             is_noted self.old.indirect second ≡ false }

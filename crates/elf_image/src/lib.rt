@@ -5,6 +5,7 @@
 #![tactic(auto)]
 
 mod changes;
+mod chunks;
 mod dynamic_rows;
 mod dynamic_types;
 mod entries;

@@ -1,14 +1,19 @@
 //! Which windows of a segment a place meets.
-ghost use Rattle.std.specs.Prelude.{◌≡◌, ◌<◌, ◌≤◌, ◌||◌, ℕ, false};
+ghost use Rattle.std.specs.Prelude.{◌≡◌, ◌+◌, ◌-◌, ◌/◌, ◌<◌, ◌≤◌, ◌||◌, ℕ, false, min};
 ghost use Rattle.elf_image.specs.Marks.{is_window_marked, marked_windows, meets_range};
+
+use crate::chunks::EntryChunks;
 
 /// The number of windows that are marked.
 const MARKED_WINDOWS: usize = 4096;
 
-/// A mark for each window that a place meets, of the first 4,096 windows; later ones count as met.
+/// What a check of all relocations notes: a mark for each window that a place meets, of the first
+/// 4,096 windows, where later ones count as met; and at which addresses the entries of the first
+/// table store.
 #[derive(Clone, Copy)]
 pub(crate) struct WindowMarks {
     met: [bool; MARKED_WINDOWS],
+    pub(crate) chunks: EntryChunks,
 }
 
 impl WindowMarks {
@@ -18,6 +23,7 @@ impl WindowMarks {
     {
         WindowMarks {
             met: [false; MARKED_WINDOWS],
+            chunks: EntryChunks::new(),
         }
     }
 
@@ -31,8 +37,7 @@ impl WindowMarks {
         if width == 0 {
             return;
         }
-        let end = u128::from(offset) + u128::from(width - 1);
-        let last = (end / u128::from(size)).min(MARKED_WINDOWS as u128 - 1) as u64;
+        let last = last_window(offset, width, size);
         let mut window = offset / size;
         while window <= last {
             self.met[window as usize] = true;
@@ -60,4 +65,18 @@ impl WindowMarks {
         }
         met
     }
+}
+
+/// Returns the index of the window of `size` bytes that has the last of `width` bytes at an offset,
+/// at most that of the last mark. Bytes in one window take no division of 128 bits.
+fn last_window(offset: u64, width: u64, size: u64) -> u64
+    requires some { 0 < size }
+    requires wide { 0 < width }
+    ensures { result ≡ min ((offset + (width - 1)) / size) 4095 }
+{
+    if width <= size - offset % size {
+        return (offset / size).min(MARKED_WINDOWS as u64 - 1);
+    }
+    let end = u128::from(offset) + u128::from(width - 1);
+    (end / u128::from(size)).min(MARKED_WINDOWS as u128 - 1) as u64
 }

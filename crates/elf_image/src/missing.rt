@@ -11,6 +11,7 @@ ghost use Rattle.elf_image.specs.Missing.{StepsMissing, opening_checks, some_ite
 ghost use Rattle.elf_image.specs.Relocated.{ReadsAfter};
 
 use crate::changes::{ImageFile, told_relocations};
+use crate::chunks::EntryChunks;
 use crate::headers::check_headers;
 use crate::image_items::ImageItems;
 use crate::walk::{ImageWalk, WalkStep};
@@ -74,6 +75,7 @@ impl<'v, 'a> MissingEntries<'v, 'a> {
             base: items.base(),
             leaves: true,
             told,
+            chunks: EntryChunks::new(),
         };
         let walk = ImageWalk::new(&image, None);
         Ok(MissingEntries { image, walk })

@@ -5,6 +5,7 @@ ghost use Rattle.elf_model.specs.Image.{ImageSource, SegmentWrite, relocation_ch
 ghost use Rattle.elf_model.specs.ImageCost.{MARKED_WINDOWS};
 ghost use Rattle.elf_table.specs.Prelude.{CallReads, IsOfRead, fault_of_result};
 ghost use Rattle.elf_image.specs.Changes.{StoresAs, image_pass};
+ghost use Rattle.elf_image.specs.Chunks.{HoldsChunks};
 ghost use Rattle.elf_image.specs.Marks.{is_window_marked};
 ghost use Rattle.elf_image.specs.Relocated.{IsImageOf};
 ghost use Rattle.elf_image.specs.SegmentParts.{IsWindowOf, KeepsEdges};
@@ -35,13 +36,24 @@ pub(crate) fn check<S: Source>(
     ensures checks { (source : ImageSource) → src.old.seen.file ≡ Some source.file →
         IsImageOf source image.now →
         ChecksAll source image.now.leaves target.now.window target.now.index result }
+    ensures chunks { (source : ImageSource) → src.old.seen.file ≡ Some source.file →
+        IsImageOf source image.now → IfOk result (λ marks.
+        HoldsChunks source.file image.now.told.ranges.first.at marks.chunks) }
 {
     let mut marks = WindowMarks::new();
     let mut walk = ImageWalk::new(image, None);
     'steps: loop {
+        if let Some(found) = walk.relative(image) {
+            let change = walk.take_relative(image, &found);
+            mark_change(&mut marks, target, &change);
+            continue;
+        }
         match walk.step(src, image)? {
             WalkStep::Stores(change) => mark_change(&mut marks, target, &change),
-            WalkStep::End => return Ok(marks),
+            WalkStep::End => {
+                marks.chunks = walk.entries.chunks;
+                return Ok(marks);
+            }
             _ => {}
         }
     }
@@ -84,6 +96,11 @@ pub(crate) fn patch_window<S: Source>(
     let wanted = Some(window.reach(target.first));
     let mut walk = ImageWalk::new(image, wanted);
     'steps: loop {
+        if let Some(found) = walk.relative(image) {
+            let change = walk.take_relative(image, &found);
+            store_change(window, image, target, &change);
+            continue;
+        }
         match walk.step(src, image)? {
             WalkStep::Stores(change) => store_change(window, image, target, &change),
             WalkStep::End => return Ok(()),

@@ -83,6 +83,32 @@ pub(crate) fn checked_place(
     })
 }
 
+/// Returns the place of a word of 8 bytes at an address if it is in the segment of the last place,
+/// and may be relocated.
+pub(crate) fn last_place(
+    image: &ImageFile<'_, '_>,
+    last: &Option<HeldRange>,
+    address: u64,
+) -> Option<Place>
+    requires { IfSome last.now (IsHeldRange image.now) }
+    ensures { IfSome result (λ place. (source : ImageSource) (at : ℕ) →
+        IsImageOf source image.now → FindsPlace source at address 8 (Ok place)) }
+{
+    let Some(range) = last else {
+        return None;
+    };
+    if !range.holds(address, 8) {
+        return None;
+    }
+    match range_fault(&image.told, range, address, 8) {
+        Some(_) => None,
+        None => Some(Place {
+            segment: range.segment,
+            offset: address - range.first,
+        }),
+    }
+}
+
 /// Returns why `width` bytes at an address, which are in a segment, may not be relocated, if they
 /// may not.
 fn range_fault(told: &Relocations, range: &HeldRange, address: u64, width: u64) -> Option<Cause>

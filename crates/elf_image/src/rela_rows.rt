@@ -1,15 +1,15 @@
 //! The entries of a table, one after another.
 ghost use Rattle.std.specs.Prelude.{◌≡◌, ◌+◌, ◌*◌, ◌^◌, ◌<◌, ◌≤◌, ℕ, List, Some, true, false, IfErr, IfOk};
-ghost use Rattle.std.specs.Prelude.{length, take};
+ghost use Rattle.std.specs.Prelude.{IfSome, length, take};
 ghost use Rattle.elf_model.specs.Bytes.{slice};
 ghost use Rattle.elf_model.specs.Records.{r_addend};
 ghost use Rattle.elf_record.specs.Rela.{IsRela};
 ghost use Rattle.elf_source.specs.Prelude.{ReadsUpTo};
 ghost use Rattle.elf_table.specs.Faults.{IsOfRead, IsReadFault};
 ghost use Rattle.elf_table.specs.Windows.{HoldsBytes};
-ghost use Rattle.elf_image.specs.RelaRows.{AreFarRows, IsRelaRow, PassesHeld, PassesRows, TakesRows};
+ghost use Rattle.elf_image.specs.RelaRows.{AreFarRows, IsHeldRow, IsRelaRow, PassesEntries, PassesRows, TakesRows};
 ghost use Rattle.elf_image.specs.RelaRows.{IsRowFar, is_in_reach};
-ghost use Rattle.elf_image.specs.Within.{RelaRowsAlive, IsTableWithin};
+ghost use Rattle.elf_image.specs.Within.{RelaRowsAlive, IsTableWithin, entries_ahead};
 
 use elf_record::gnu_numbers::R_X86_64_IRELATIVE;
 use elf_record::numbers::R_X86_64_COPY;
@@ -124,27 +124,49 @@ impl RelaRows {
         Ok(Some(self.take()))
     }
 
+    /// Returns the next entry if it was read.
+    pub(crate) fn held(&self) -> Option<RelaRow>
+        requires { (size : ℕ) × RelaRowsAlive size self.now }
+        ensures { IfSome result (IsHeldRow self.now) }
+    {
+        if self.window.front().len() < ROW {
+            return None;
+        }
+        Some(self.front_row())
+    }
+
+    /// Returns the next entry, which was read.
+    fn front_row(&self) -> RelaRow
+        requires alive { (size : ℕ) × RelaRowsAlive size self.now }
+        requires some { 24 ≤ length self.now.window.held }
+        ensures { IsHeldRow self.now result }
+    {
+        RelaRow {
+            index: self.index,
+            at: self.window.at(),
+            entry: front_entry(self.window.front()),
+        }
+    }
+
     /// Takes the next entry, which was read.
     fn take(&mut self) -> RelaRow
         requires alive { (size : ℕ) × RelaRowsAlive size self.old }
         requires some { 24 ≤ length self.old.window.held }
-        ensures passes { PassesHeld self.old self.new 1 }
+        ensures passes { PassesEntries self.old self.new 1 }
         ensures index { result.index ≡ self.old.index }
         ensures taken { (file : List ℕ) → HoldsBytes file self.old.window →
             IsRelaRow file self.old result }
     {
-        let index = self.index;
-        let at = self.window.at();
-        let entry = front_entry(self.window.front());
+        let row = self.front_row();
         self.pass(1);
-        RelaRow { index, at, entry }
+        row
     }
 
-    /// Passes entries that were read.
-    fn pass(&mut self, rows: u64)
+    /// Passes entries, no more than are ahead; those that were not read are never read.
+    pub(crate) fn pass(&mut self, rows: u64)
         requires alive { (size : ℕ) × RelaRowsAlive size self.old }
-        requires some { 24 * rows ≤ length self.old.window.held }
-        ensures { PassesHeld self.old self.new rows }
+        requires some { rows ≤ entries_ahead self.old }
+        ensures { PassesEntries self.old self.new rows }
     {
         self.window.skip(rows * RELOCATION_BYTES);
         self.index += rows;

@@ -1,19 +1,22 @@
 //! The call that writes the image of a segment.
-ghost use Rattle.std.specs.Prelude.{◌≡◌, ◌+◌, ◌*◌, ◌<◌, ◌≤◌, ◌++◌, ℕ, IfErr, List, length, None, Some, true};
+ghost use Rattle.std.specs.Prelude.{◌≡◌, ◌+◌, ◌-◌, ◌*◌, ◌<◌, ◌≤◌, ◌++◌, ℕ, IfErr, List, length, None, Some};
+ghost use Rattle.std.specs.Prelude.{true};
 ghost use Rattle.elf_model.specs.Checks.{first_refusal, header_checks, load_checks};
 ghost use Rattle.elf_model.specs.Image.{ImageSource, image};
-ghost use Rattle.elf_model.specs.ImageCost.{image_cost};
 ghost use Rattle.elf_model.specs.Records.{e_phnum, e_shnum};
 ghost use Rattle.elf_model.specs.Style.{without_sections};
+ghost use Rattle.elf_source.specs.Prelude.{ReadsUpTo};
 ghost use Rattle.elf_table.specs.Prelude.{HoldsProgramHeaders};
 ghost use Rattle.elf_hash.specs.Loading.{FitsSource};
-ghost use Rattle.elf_image.specs.ImageWrites.{HasSource, IsMaskedFile, WritesImage, asked_image};
-ghost use Rattle.elf_image.specs.ImageWrites.{request_items, relocated_bytes, relocated_cost};
-ghost use Rattle.elf_image.specs.ImageWrites.{image_ceiling, relocated_ceiling, windows_met};
+ghost use Rattle.elf_image.specs.ImageWrites.{HasSource, IsMaskedFile, IsTooLarge};
+ghost use Rattle.elf_image.specs.ImageWrites.{RefusesOverLimit, WritesImage, asked_image};
+ghost use Rattle.elf_image.specs.ImageWrites.{image_ceiling, relocated_bytes, relocated_ceiling};
+ghost use Rattle.elf_image.specs.ImageWrites.{relocated_cost, request_cost, request_items};
 ghost use Rattle.elf_image.specs.Within.{ImageWithin};
 ghost use Rattle.elf_image.specs.Written.{BudgetDecides, StopsImage, windows_cost};
 
 use crate::changes::{ImageFile, told_relocations};
+use crate::chunks::EntryChunks;
 use crate::headers::{check_headers, load_image, wanted_segment};
 use crate::image_items::ImageItems;
 use crate::marks::WindowMarks;
@@ -48,8 +51,9 @@ pub struct ImageRequest<'a> {
 /// load's; `LoadOverlap`; `NotImage`, `LoadAlign` and `TableOutside`; `BadLink` at 0x38 for an
 /// index that no LOAD program header has; `Budget` at the program header if the segment has more
 /// bytes than `most`; those of the dynamic entries and of the tables; then those of the entries, in
-/// the order in which a loader applies them. Returns a fault of the source or of the output; a
-/// prefix of the bytes was written.
+/// the order in which a loader applies them. Returns `Budget` if the limit on the source is too
+/// small: at a read before all entries are checked, otherwise at the segment's bytes in the file.
+/// Returns a fault of the source or of the output; a prefix of the bytes was written.
 pub fn write_image<S: Source, W: Sink>(
     src: &mut Counted<S>,
     store: &mut HeaderStore,
@@ -63,12 +67,16 @@ pub fn write_image<S: Source, W: Sink>(
         result (image file store.old.slots request.now.segment request.now.most
         (request_items request.now)) }
     ensures stops { IfErr result (StopsImage src.old src.new out.new) }
+    ensures limits { (file : List ℕ) → src.old.seen.file ≡ Some file → IfErr result
+        (RefusesOverLimit src.old
+        (request_cost file (without_sections file) (length window.old) request.now)
+        (IsTooLarge (without_sections file) request.now.segment request.now.most)
+        (image file store.old.slots request.now.segment request.now.most
+        (request_items request.now))) }
     ensures cost { (file : List ℕ) → src.old.seen.file ≡ Some file → src.new.asked ≤ src.old.asked
-        + image_cost (without_sections file) request.now.segment (length window.old)
-        (windows_met file (without_sections file) (length window.old) request.now) }
-    ensures bounded { src.new.asked ≤ src.old.asked + image_ceiling src.old.seen.size
-        store.old.slots (length window.old) request.now.most }
-    ensures shows { src.new.hides ≡ src.old.hides }
+        + request_cost file (without_sections file) (length window.old) request.now }
+    ensures reads { ReadsUpTo src.old src.new (image_ceiling src.old.seen.size
+        store.old.slots (length window.old) request.now.most) }
 {
     let hides = src.hides();
     src.mask_section_headers(true);
@@ -100,12 +108,16 @@ fn write_masked<S: Source, W: Sink>(
         e_shnum file ≡ 0 → WritesImage out.old out.new result
         (asked_image whole file store.old.slots masked.now.request.now) }
     ensures stops { IfErr result (StopsImage src.old src.new out.new) }
+    ensures limits { (whole file : List ℕ) → IsMaskedFile src.old masked.now.hides whole file →
+        e_shnum file ≡ 0 → IfErr result (RefusesOverLimit src.old
+        (request_cost whole file (length window.old) masked.now.request.now)
+        (IsTooLarge file masked.now.request.now.segment masked.now.request.now.most)
+        (asked_image whole file store.old.slots masked.now.request.now)) }
     ensures cost { (whole file : List ℕ) → IsMaskedFile src.old masked.now.hides whole file →
-        e_shnum file ≡ 0 → src.new.asked ≤ src.old.asked + image_cost file
-        masked.now.request.now.segment (length window.old)
-        (windows_met whole file (length window.old) masked.now.request.now) }
-    ensures bounded { src.new.asked ≤ src.old.asked + image_ceiling src.old.seen.size
-        store.old.slots (length window.old) masked.now.request.now.most }
+        e_shnum file ≡ 0 → src.new.asked ≤ src.old.asked
+        + request_cost whole file (length window.old) masked.now.request.now }
+    ensures reads { ReadsUpTo src.old src.new (image_ceiling src.old.seen.size
+        store.old.slots (length window.old) masked.now.request.now.most) }
 {
     let loaded = load_image(src, store)?;
     write_loaded(src, store, loaded, masked, window, out)
@@ -128,13 +140,19 @@ fn write_loaded<S: Source, W: Sink>(
         HoldsProgramHeaders file loaded store.now → WritesImage out.old out.new result
         (asked_image whole file store.now.slots masked.now.request.now) }
     ensures stops { IfErr result (StopsImage src.old src.new out.new) }
+    ensures limits { (whole file : List ℕ) → IsMaskedFile src.old masked.now.hides whole file →
+        first_refusal (header_checks file ++ load_checks file store.now.slots) ≡ None →
+        HoldsProgramHeaders file loaded store.now → IfErr result (RefusesOverLimit src.old
+        (request_cost whole file (length window.old) masked.now.request.now
+        - (64 + 56 * e_phnum file))
+        (IsTooLarge file masked.now.request.now.segment masked.now.request.now.most)
+        (asked_image whole file store.now.slots masked.now.request.now)) }
     ensures cost { (whole file : List ℕ) → IsMaskedFile src.old masked.now.hides whole file →
         first_refusal (header_checks file ++ load_checks file store.now.slots) ≡ None →
         HoldsProgramHeaders file loaded store.now →
-        64 + 56 * e_phnum file + src.new.asked ≤ src.old.asked + image_cost file
-        masked.now.request.now.segment (length window.old)
-        (windows_met whole file (length window.old) masked.now.request.now) }
-    ensures bounded { src.new.asked ≤ src.old.asked + (src.old.seen.size
+        64 + 56 * e_phnum file + src.new.asked ≤ src.old.asked
+        + request_cost whole file (length window.old) masked.now.request.now }
+    ensures reads { ReadsUpTo src.old src.new (src.old.seen.size
         + relocated_ceiling src.old.seen.size (length window.old)
         masked.now.request.now.most) }
 {
@@ -143,40 +161,45 @@ fn write_loaded<S: Source, W: Sink>(
     check_headers(&view)?;
     let header = wanted_segment(&view, request.segment, request.most)?;
     let told = told_relocations(src, &view)?;
-    let image = ImageFile {
+    let mut image = ImageFile {
         view,
         items: request.items,
         base: request.items.base(),
         leaves: request.leaves,
         told,
+        chunks: EntryChunks::new(),
     };
     let target = target_of(request.segment, &header, window.len() as u64, masked.hides);
-    write_relocated(src, &image, &target, window, out)
+    write_relocated(src, &mut image, &target, window, out)
 }
 
 /// Checks the relocations of a file whose headers are checked, and writes a segment with them.
 fn write_relocated<S: Source, W: Sink>(
     src: &mut Counted<S>,
-    image: &ImageFile<'_, '_>,
+    image: &mut ImageFile<'_, '_>,
     target: &ImageTarget,
     window: &mut [u8],
     out: &mut Out<W>,
 ) -> Result<(), RunFault>
-    requires image { ImageWithin src.old.seen.size image.now }
+    requires image { ImageWithin src.old.seen.size image.old }
     requires within { target.now.bytes.at + target.now.bytes.size ≤ src.old.seen.size }
     requires some { 16 ≤ target.now.window }
     requires room { target.now.window ≡ length window.old }
     requires masked { src.old.hides ≡ true }
-    ensures writes { (source : ImageSource) → HasSource src.old image.now source target.now →
-        WritesImage out.old out.new result (relocated_bytes source image.now.leaves target.now) }
+    ensures writes { (source : ImageSource) → HasSource src.old image.old source target.now →
+        WritesImage out.old out.new result (relocated_bytes source image.old.leaves target.now) }
     ensures stops { IfErr result (StopsImage src.old src.new out.new) }
-    ensures cost { (source : ImageSource) → HasSource src.old image.now source target.now →
-        src.new.asked ≤ src.old.asked + relocated_cost source image.now target.now }
-    ensures bounded { src.new.asked ≤ src.old.asked
-        + relocated_ceiling src.old.seen.size target.now.window target.now.size }
+    ensures limits { (source : ImageSource) → HasSource src.old image.old source target.now →
+        IfErr result (RefusesOverLimit src.old (relocated_cost source image.old target.now) ⊥
+        (relocated_bytes source image.old.leaves target.now)) }
+    ensures cost { (source : ImageSource) → HasSource src.old image.old source target.now →
+        src.new.asked ≤ src.old.asked + relocated_cost source image.old target.now }
+    ensures reads { ReadsUpTo src.old src.new
+        (relocated_ceiling src.old.seen.size target.now.window target.now.size) }
 {
     let marks = check(src, image, target)?;
     check_budget(src, image, target, &marks)?;
+    image.chunks = marks.chunks;
     write_segment_windows(src, image, target, &marks, window, out)
 }
 

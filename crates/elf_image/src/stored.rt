@@ -2,6 +2,7 @@
 ghost use Rattle.std.specs.Prelude.{◌≡◌, ◌<◌, ◌/◌, ◌^◌, ℕ, List, IfErr, IfOk};
 ghost use Rattle.elf_model.specs.Bytes.{little};
 ghost use Rattle.elf_model.specs.ImageItems.{bytes_for, is_looked_up};
+ghost use Rattle.elf_model.specs.declared.dynamic_types.DynamicType.TheVariants.{Relative};
 ghost use Rattle.elf_model.specs.ImageValues.{copied_bytes, descriptor_bytes, low_four_bytes, placed_value};
 ghost use Rattle.elf_model.specs.ImageValues.{stored_bytes, word_if_bound, word_of};
 ghost use Rattle.elf_model.specs.Placing.{address_in};
@@ -41,7 +42,7 @@ pub(crate) fn stored_bytes<'a>(
     let addend = entry.r_addend.cast_unsigned();
     let place = image.base.wrapping_add(entry.r_offset);
     match found {
-        DynamicType::Relative => word_of(Ok(image.base), addend),
+        DynamicType::Relative => Ok(relative_bytes(image, entry)),
         DynamicType::Absolute => word_of(bound_value(image, index, symbol), addend),
         DynamicType::Address => word_of(bound_value(image, index, symbol), 0),
         DynamicType::Call => word_of(called_value(image, index, symbol), 0),
@@ -75,6 +76,18 @@ pub(crate) fn stored_bytes<'a>(
             descriptor_bytes(image.items.number(ItemKind::Descriptor, 0), offset, addend)
         }
     }
+}
+
+/// Returns the bytes that an entry of R_X86_64_RELATIVE stores: the load address and the addend,
+/// modulo 2^64.
+#[tactic(auto, unfolding(elf_model::specs::ImageValues::stored_bytes))]
+pub(crate) fn relative_bytes<'a>(image: &ImageFile<'_, 'a>, entry: &Rela) -> RelocatedBytes<'a>
+    ensures value { (file : List ℕ) (rela at : ℕ) → IsRela file rela entry.now →
+        r_addend file rela < 2 ^ 64 → IsBased image.now →
+        stored_bytes Relative file (known_items image.now) rela at ≡ Ok (stored_as result) }
+    ensures given { IsGiven result }
+{
+    word(image.base.wrapping_add(entry.r_addend.cast_unsigned()))
 }
 
 /// Returns the eight bytes of a value and an addend modulo 2^64, if there is a value.

@@ -7,7 +7,7 @@ ghost use Rattle.elf_table.specs.Faults.{IsOfCheck};
 ghost use Rattle.elf_table.specs.Prelude.{CallReads, fault_of_result};
 ghost use Rattle.elf_image.specs.Changes.{AreChangesOf, FindsWord, GoesInTurn, IsUnwanted};
 ghost use Rattle.elf_image.specs.Changes.{StoresGiven, TakesChange, image_changes_left, entry_reads};
-ghost use Rattle.elf_image.specs.Changes.{image_pass, walk_reads};
+ghost use Rattle.elf_image.specs.Changes.{IsRelativeEntry, TakesRelative, image_pass, walk_reads};
 ghost use Rattle.elf_image.specs.Relocated.{HasEntries, IsHeldRange, IsImageOf};
 ghost use Rattle.elf_image.specs.Within.{ImageWithin, StepsImageWalk, WalkAlive};
 ghost use Rattle.elf_image.specs.declared.rela_rows.WindowReach.{WindowReach};
@@ -16,9 +16,10 @@ ghost use Rattle.elf_image.specs.declared.walk.WalkStep.TheVariants.{End};
 use crate::changes::{EntryResult, ImageFile, PlacedBytes, RelocatedBytes};
 use crate::entries::{EntryStep, OrderedEntries, OrderedEntry};
 use crate::entry::entry_result;
-use crate::place::{HeldRange, checked_place};
-use crate::rela_rows::WindowReach;
+use crate::place::{HeldRange, Place, checked_place, last_place};
+use crate::rela_rows::{RelaRow, WindowReach};
 use crate::relative_rows::{RelativeRow, RelativeRows, RelativeStep};
+use crate::stored::relative_bytes;
 use elf_source::{Counted, Source};
 use elf_table::Fault;
 
@@ -49,6 +50,13 @@ pub(crate) enum WalkStep<'a> {
     End,
 }
 
+/// An entry of R_X86_64_RELATIVE that was read, and its place.
+#[derive(Clone, Copy)]
+pub(crate) struct RelativeEntry {
+    row: RelaRow,
+    place: Place,
+}
+
 impl ImageWalk {
     /// Creates a walk before the first relocation of a file. If a window of a segment is wanted,
     /// relocations that cannot store into it are passed by; all were checked before.
@@ -64,7 +72,7 @@ impl ImageWalk {
             image_changes_left source result ≡ relocation_changes source }
     {
         let rows = RelativeRows::new(image.told.compact);
-        let entries = OrderedEntries::new(image.told.ranges, wanted);
+        let entries = OrderedEntries::new(image.told.ranges, wanted, image.chunks);
         ImageWalk {
             rows,
             entries,
@@ -115,6 +123,40 @@ impl ImageWalk {
                 self.past_rows = true;
                 Ok(WalkStep::Nothing)
             }
+        }
+    }
+
+    /// Returns the next entry if it was read, is of R_X86_64_RELATIVE and stores a word into the
+    /// segment of the last place, with its place. [`Self::take_relative`] then takes it;
+    /// [`Self::step`] would do so too.
+    pub(crate) fn relative(&self, image: &ImageFile<'_, '_>) -> Option<RelativeEntry>
+        requires { (size : ℕ) × WalkAlive size image.now self.now }
+        ensures { IfSome result (IsRelativeEntry image.now self.now) }
+    {
+        if !self.past_rows {
+            return None;
+        }
+        let row = self.entries.relative()?;
+        let place = last_place(image, &self.last, row.entry.r_offset)?;
+        Some(RelativeEntry { row, place })
+    }
+
+    /// Takes the entry that [`Self::relative`] returned, and returns what it changes.
+    #[inline(always)]
+    pub(crate) fn take_relative<'a>(
+        &mut self,
+        image: &ImageFile<'_, 'a>,
+        found: &RelativeEntry,
+    ) -> PlacedBytes<'a>
+        requires alive { (size : ℕ) × WalkAlive size image.now self.old }
+        requires found { IsRelativeEntry image.now self.old found.now }
+        ensures { TakesRelative image.now self.old self.new result }
+    {
+        self.entries.pass_relative(&found.row);
+        PlacedBytes {
+            place: found.place,
+            width: 8,
+            bytes: relative_bytes(image, &found.row.entry),
         }
     }
 

@@ -1,9 +1,11 @@
 -- Each step stores something, which is marked, or nothing.
-use Rattle.std.proofs.Common.{ap, sym, ◌∙◌, arith}
+use Rattle.std.proofs.Common.{ap, sym, subst, ◌∙◌, arith}
 use Rattle.std.proofs.lemmas.Result.{err_from_is_err_and}
 use Rattle.elf_model.specs.Image.{relocation_changes, writes_of}
 use Rattle.elf_source.proofs.ReadsLaws.{ReadsUpTo-none, ReadsUpTo-then, ReadsUpTo-to}
 use Rattle.elf_image.specs.Changes.{image_changes_left}
+use Rattle.elf_image.specs.Chunks.{HoldsChunks}
+use Rattle.elf_image.specs.declared.ranges.EntryRanges.{EntryRanges}
 use Rattle.elf_image.proofs.PassSteps.{check_stopped, other_step, seen_all, seen_none, seen_other, seen_stored}
 use Rattle.elf_image.proofs.passes.check.Goals as goal
 
@@ -32,8 +34,8 @@ steps-preserved-in-Stores g c =
       seen = λ source held of.
           let partial = c.args.image.now.leaves in
           let takes = rw c.in-Stores.is at c.in_ok-change.ensures.takes source (known.reads.keeps.same_file ∙ held) of (known.known source held of) in
-          seen_stored (writes_of partial (relocation_changes source)) source partial c.args.target.now (image_changes_left source c.steps.walk) (image_changes_left source c.step.new.self) c.steps.marks c.mark_change.new.marks c.in-Stores.change takes.0
-          (known.seen source held of) takes.1 takes.2 takes.3 c.mark_change.ensures;
+          seen_stored (writes_of partial (relocation_changes source)) source partial c.args.target.now (image_changes_left source c.steps.walk) (image_changes_left source c.step.new.self) c.steps.marks c.mark_change-in-Stores.new.marks c.in-Stores.change takes.0
+          (known.seen source held of) takes.1 takes.2 takes.3 c.mark_change-in-Stores.ensures;
     }
 
 pub steps-preserved : goal.steps-preserved
@@ -50,7 +52,7 @@ steps-preserved g c =
           let takes = c.in_ok-change.ensures.takes source (known.reads.keeps.same_file ∙ held) of (known.known source held of) in
           seen_other (writes_of partial (relocation_changes source)) source partial c.args.target.now (image_changes_left source c.steps.walk) (image_changes_left source c.step.new.self) c.steps.marks
           (known.seen source held of)
-          (other_step source partial c.steps.walk.wanted (image_changes_left source c.steps.walk) (image_changes_left source c.step.new.self) c.in_ok-change.field-0 known.wanted c.in_default.not-Stores c.in_default.not-End takes);
+          (other_step source partial c.steps.walk.wanted (image_changes_left source c.steps.walk) (image_changes_left source c.step.new.self) c.in_ok-change.field-0 known.wanted c.in_default-2.not-Stores c.in_default-2.not-End takes);
     }
 
 pub returns-in-End-clause-checks : goal.returns-in-End-clause-checks
@@ -67,3 +69,26 @@ returns-in_err-change-clause-checks g c = λ source held of.
     let takes = c.in_err-change.ensures.takes source (known.reads.keeps.same_file ∙ held) of (known.known source held of) in
     rw (p.1, p.2)
     (check_stopped source c.args.image.now.leaves c.args.target.now c.steps.walk.wanted (image_changes_left source c.steps.walk) (image_changes_left source c.step.new.self) c.steps.marks c.in_err-change.field-0.0 (known.seen source held of) takes)
+
+pub steps-preserved-in-Some : goal.steps-preserved-in-Some
+steps-preserved-in-Some g c =
+    let known = c.steps.invariant in
+    let t = c.take_relative-change.ensures in
+    record {
+      reads = known.reads;
+      asked = let r = t.reads in omega (arith, known.asked, r);
+      alive = t.alive _ known.alive;
+      wanted = t.wanted ∙ known.wanted;
+      known = λ source held of. t.known source.file (known.known source held of);
+      seen = λ source held of.
+          let partial = c.args.image.now.leaves in
+          let takes = t.takes source of (known.known source held of) in
+          seen_stored (writes_of partial (relocation_changes source)) source partial c.args.target.now (image_changes_left source c.steps.walk) (image_changes_left source c.take_relative-change.new.self) c.steps.marks c.mark_change.new.marks c.take_relative-change.result takes.0
+          (known.seen source held of) takes.1 takes.2 takes.3 c.mark_change.ensures;
+    }
+
+pub returns-in-End-clause-chunks : goal.returns-in-End-clause-chunks
+returns-in-End-clause-chunks g c = λ source held of.
+    let known = c.steps.invariant in
+    let now = c.in_ok-change.ensures.known source (known.reads.keeps.same_file ∙ held) of (known.known source held of) in
+    subst (λ (ranges : EntryRanges). HoldsChunks source.file ranges.first.at c.step.new.self.entries.chunks) now.ranges now.entries.chunks

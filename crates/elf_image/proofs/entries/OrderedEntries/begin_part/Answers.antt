@@ -17,6 +17,7 @@ returns-clause-begins c =
       begun = refl;
       noted = refl;
       wanted = refl;
+      chunks = refl;
       kind = c.part_of-part.ensures.kind;
       table = subst (IsPartTable old.ranges old.indirect c.part_of-part.result) (sym c.new-rows.ensures.table) c.part_of-part.ensures.table;
       index = c.new-rows.ensures.index;

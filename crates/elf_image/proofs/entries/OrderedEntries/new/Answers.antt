@@ -18,9 +18,9 @@ returns-clause-begins c = λ source.
     left-at-first source _ none
 
 pub returns-clause-known : goal.returns-clause-known
-returns-clause-known c = λ file.
+returns-clause-known c = λ file holds.
     let none : c.new.result.table.count ≡ 0 = ap (λ (t : TableRange). t.count) (c.new.ensures.table ∙ c.new-table.ensures) in
-    known-at-first file _ (c.new.ensures.held file) none c.new.ensures.index refl
+    known-at-first file _ (c.new.ensures.held file) none c.new.ensures.index refl holds
 
 pub returns-clause-reads : goal.returns-clause-reads
 returns-clause-reads c =

@@ -42,7 +42,7 @@ returns-clause-opens g c = λ file held views.
       opens_passed file passes told.1.0,
       λ whole.
           begins_missing whole file (some_items c.args.items.now) _ refl
-          (image_of file passes whole (some_items c.args.items.now) _ views refl c.base.ensures told.1.1) (c.new-walk.ensures.known (source whole)) c.new-walk.ensures.wanted (c.new-walk.ensures.begins (source whole)),
+          (image_of file passes whole (some_items c.args.items.now) _ views refl c.base.ensures told.1.1 (c.new.ensures file _)) (c.new-walk.ensures.known (source whole)) c.new-walk.ensures.wanted (c.new-walk.ensures.begins (source whole)),
     )
 
 pub returns-clause-asks : goal.returns-clause-asks

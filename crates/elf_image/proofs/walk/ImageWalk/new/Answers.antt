@@ -16,7 +16,7 @@ returns-clause-reads c = λ size w.
 pub returns-clause-known : goal.returns-clause-known
 returns-clause-known c = λ source of. record {
   rows = c.new-rows.ensures.known source.file;
-  entries = c.new-entries.ensures.known source.file;
+  entries = c.new-entries.ensures.known source.file of.chunks;
   ranges = c.new-entries.ensures.ranges;
   wanted = c.new-entries.ensures.wanted;
 }
