@@ -113,7 +113,7 @@ impl MemberCursor {
 /// # Errors
 /// Refused at `at` with `MemberCut` if there is no header, or it or the data extend past the end of
 /// the file, or the name past the end of the data. Otherwise a read fault, at its offset.
-fn read_header<S: Source>(
+pub fn read_header<S: Source>(
     src: &mut Counted<S>,
     at: u64,
     header: &mut [u8; MEMBER_HEADER_BYTES],

@@ -8,7 +8,7 @@ use elf_record::{u16_at, u64_at};
 use memchr::memchr;
 
 /// The size of a member's header in bytes.
-pub(crate) const MEMBER_HEADER_BYTES: usize = 60;
+pub const MEMBER_HEADER_BYTES: usize = 60;
 
 /// The size of the name field in bytes.
 pub(crate) const NAME_FIELD_BYTES: usize = 16;
@@ -83,7 +83,7 @@ pub(crate) fn data_within(
 
 /// Returns the offset after data that end at the offset `end`, of the member whose header is at
 /// `header`, and after the padding byte, which follows data whose total size is odd.
-pub(crate) fn padded_end(header: u64, end: u64) -> u64
+pub fn padded_end(header: u64, end: u64) -> u64
     requires order { header + 60 ≤ end }
     requires small { end < 2 ^ 63 }
     ensures { result ≡ padded_end header end }
@@ -92,7 +92,7 @@ pub(crate) fn padded_end(header: u64, end: u64) -> u64
 }
 
 /// Returns `true` if a header is that of the table of names: its name is two slashes.
-pub(crate) fn is_name_table(header: &[u8; MEMBER_HEADER_BYTES]) -> bool
+pub fn is_name_table(header: &[u8; MEMBER_HEADER_BYTES]) -> bool
     ensures { result ≡ is_name_table header.now 0 }
 {
     u64_at(header, 0) == 0x2020_2020_2020_2f2f && u64_at(header, 8) == 0x2020_2020_2020_2020

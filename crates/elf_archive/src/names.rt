@@ -27,7 +27,7 @@ const LONG_NAME_BYTES: usize = 4098;
 /// - `NameOutside` at `at` if there is no table of names or the name begins past its end.
 /// - `NameUnended` at `at` if the table ends before the name does.
 /// - Otherwise a read fault, at its offset.
-pub(crate) fn read_name<S: Source>(
+pub fn read_name<S: Source>(
     src: &mut Counted<S>,
     names: Option<FileRange>,
     header: &[u8; MEMBER_HEADER_BYTES],

@@ -83,6 +83,11 @@ pub record AreOptions (rows : List Row) (args : CommandArgs) : Type 0 where
   pub max_write : (value : Option ℕ) → HasNumber (one_of (codes "max-write") rows) value → args.max_write ≡ value
   pub missing : args.missing ≡ is_option_set (first_of (codes "missing") rows)
   pub leave : args.leave ≡ is_option_set (first_of (codes "leave") rows)
+  pub keys : (value : Option ℕ) → HasNumber (one_of (codes "keys") rows) value → args.keys ≡ value
+  pub key_bytes : (value : Option ℕ) → HasNumber (one_of (codes "key-bytes") rows) value → args.key_bytes ≡ value
+  pub index : (value : Option ℕ) → HasNumber (one_of (codes "index") rows) value → args.index ≡ value
+  pub link_rows : (value : Option ℕ) → HasNumber (one_of (codes "rows") rows) value → args.rows ≡ value
+  pub words : texts args.words.items ≡ values_of (codes "WORDS") rows
 
 -- a command with the values of its arguments
 abbrev pub AreArgs : Option (Text × List Row) → CommandArgs → Type 0

@@ -10,7 +10,7 @@ use Rattle.clap.specs.declared.builder.value_parser.ValueParser.{ValueParser}
 use Rattle.clap.specs.declared.builder.value_parser.ValueParser.TheVariants.{NonEmptyString, Signed, Unsigned}
 use Rattle.elf_cli.specs.declared.command_args.CommandName.{CommandName}
 use Rattle.elf_cli.specs.declared.command_args.CommandName.TheVariants as command
-use Rattle.elf_cli.specs.declared.command_sets.TheConstants.{SHOW, SAMPLE, FIND, APPLY, BYTES, IMAGE, CHECK, LIST, TRAITS, NEEDS, ARCHIVE, EXPLAIN, VERSION}
+use Rattle.elf_cli.specs.declared.command_sets.TheConstants.{SHOW, SAMPLE, FIND, APPLY, BYTES, IMAGE, CHECK, LIST, TRAITS, NEEDS, RESOLVE, ARCHIVE, EXPLAIN, VERSION}
 
 -- an option that may also be given by a letter, as in -g
 abbrev pub by_letter : Text → Rule → Rule
@@ -77,8 +77,13 @@ selecting = SHOW + LIST + ARCHIVE
 abbrev pub argument_rows : List (ℕ × Rule)
 argument_rows =
     (one_file + SAMPLE + many_files, also_named (codes "max-headers") (numbered_option (codes "headers") (Signed (pos 1) (pos 65279)) (codes "4096")))
+    ∷ (RESOLVE, also_named (codes "max-headers") (numbered_option (codes "headers") (Signed (pos 1) (pos 65279)) (codes "65279")))
     ∷ (listing, also_named (codes "max-name-len") (numbered_option (codes "names") (Signed (pos 1) (pos 4096)) (codes "256")))
-    ∷ (one_file + SAMPLE + many_files, option (codes "max-read") (Unsigned 0 9223372036854775807))
+    ∷ (one_file + SAMPLE + many_files + RESOLVE, option (codes "max-read") (Unsigned 0 9223372036854775807))
+    ∷ (RESOLVE, option (codes "keys") (Unsigned 1 16777216))
+    ∷ (RESOLVE, option (codes "key-bytes") (Unsigned 1 1073741824))
+    ∷ (RESOLVE, option (codes "index") (Unsigned 1 16777216))
+    ∷ (RESOLVE, option (codes "rows") (Unsigned 1 16777216))
     ∷ (NEEDS, option (codes "max-tries") (Unsigned 0 9223372036854775807))
     ∷ (NEEDS, valued (codes "library-path"))
     ∷ (NEEDS, valued (codes "default"))
@@ -87,7 +92,7 @@ argument_rows =
     ∷ (NEEDS, flag (codes "no-cache"))
     ∷ (NEEDS, also_named (codes "bindings") (flag (codes "symbols")))
     ∷ (NEEDS, flag (codes "unused"))
-    ∷ (NEEDS, flag (codes "problems"))
+    ∷ (NEEDS + RESOLVE, flag (codes "problems"))
     ∷ (TRAITS, valued (codes "require"))
     ∷ (SHOW + SAMPLE + CHECK + LIST, by_letter (codes "o") (option (codes "only") NonEmptyString))
     ∷ (ARCHIVE, by_letter (codes "o") (option (codes "only") NonEmptyString))
@@ -95,7 +100,7 @@ argument_rows =
     ∷ (FIND, by_letter (codes "g") (flag (codes "gnu")))
     ∷ (listing, also_named (codes "use-dynamic") (by_letter (codes "D") (flag (codes "by-segments"))))
     ∷ (FIND, also_named (codes "use-dynamic") (by_letter (codes "D") (flag (codes "by-segments"))))
-    ∷ (listing + FIND + TRAITS + NEEDS, by_letter (codes "j") (flag (codes "json")))
+    ∷ (listing + FIND + TRAITS + NEEDS + RESOLVE, by_letter (codes "j") (flag (codes "json")))
     ∷ (listing + FIND + TRAITS + NEEDS, by_letter (codes "t") (flag (codes "table")))
     ∷ (selecting + SAMPLE, flag (codes "versions"))
     ∷ (selecting, by_letter (codes "n") (repeated (codes "name")))
@@ -121,6 +126,7 @@ argument_rows =
     ∷ (IMAGE, any_words (codes "ITEM"))
     ∷ (APPLY, any_words (codes "ITEM"))
     ∷ (many_files, any_words (codes "PATH"))
+    ∷ (RESOLVE, any_words (codes "WORDS"))
     ∷ (EXPLAIN, any_words (codes "CAUSE"))
     ∷ []
 
@@ -141,6 +147,7 @@ command_rows =
     ∷ (codes "list", command.List, LIST, [])
     ∷ (codes "traits", command.Traits, TRAITS, codes "hardening" ∷ [])
     ∷ (codes "needs", command.Needs, NEEDS, codes "deps" ∷ [])
+    ∷ (codes "resolve", command.Resolve, RESOLVE, [])
     ∷ (codes "archive", command.Archive, ARCHIVE, [])
     ∷ (codes "explain", command.Explain, EXPLAIN, [])
     ∷ (codes "version", command.Version, VERSION, [])

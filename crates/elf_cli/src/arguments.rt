@@ -6,14 +6,15 @@ ghost use Rattle.elf_cli.specs.Described.{argument_row};
 use crate::arg_specs::{ArgKind, ArgSpec};
 use crate::command_sets::{
     APPLY, ARCHIVE, BYTES, CHECK, EXPLAIN, FIND, IMAGE, LINES, LIST, LISTING, MANY_FILES, ONE_FILE,
-    READING, SAMPLE, SELECTING, SHOW, TRAITS,
+    READING, RESOLVE, SAMPLE, SELECTING, SHOW, TRAITS,
 };
 use crate::needs_arguments::{
     BINDINGS, CACHE, DEFAULT, LIBRARY_PATH, MAX_TRIES, NO_CACHE, PROBLEMS, ROOT, UNUSED,
 };
+use crate::resolve_arguments::{INDEX, KEY_BYTES, KEYS, LINK_HEADERS, ROWS, WORDS};
 use clap::builder::ValueParser;
 
-static ARGUMENTS: [ArgSpec; 46] = [
+static ARGUMENTS: [ArgSpec; 52] = [
     ArgSpec {
         name: "headers",
         short: None,
@@ -23,6 +24,7 @@ static ARGUMENTS: [ArgSpec; 46] = [
             1 to 65279",
         commands: READING,
     },
+    LINK_HEADERS,
     ArgSpec {
         name: "names",
         short: None,
@@ -39,8 +41,12 @@ static ARGUMENTS: [ArgSpec; 46] = [
         kind: ArgKind::Number(ValueParser::Unsigned(0, 9_223_372_036_854_775_807)),
         help: "Read at most N bytes of the file:\n\
             0 to 9223372036854775807 [default: no limit]",
-        commands: READING,
+        commands: READING | RESOLVE,
     },
+    KEYS,
+    KEY_BYTES,
+    INDEX,
+    ROWS,
     MAX_TRIES,
     LIBRARY_PATH,
     DEFAULT,
@@ -125,7 +131,7 @@ static ARGUMENTS: [ArgSpec; 46] = [
         alias: None,
         kind: ArgKind::Flag,
         help: "Print each line as a JSON object",
-        commands: LINES,
+        commands: LINES | RESOLVE,
     },
     ArgSpec {
         name: "table",
@@ -343,6 +349,7 @@ static ARGUMENTS: [ArgSpec; 46] = [
         help: "A file or a directory; - is the file on standard input",
         commands: MANY_FILES,
     },
+    WORDS,
     ArgSpec {
         name: "CAUSE",
         short: None,

@@ -41,6 +41,8 @@ pub enum CommandName {
     Traits,
     /// Prints the libraries that programs need.
     Needs,
+    /// Prints where a linker takes symbols from.
+    Resolve,
     /// Lists an archive.
     Archive,
     /// Prints what causes and states mean.
@@ -131,6 +133,16 @@ pub struct CommandArgs<'a> {
     pub missing: bool,
     /// Whether an entry that lacks an item changes nothing.
     pub leave: bool,
+    /// How many names of symbols are allowed.
+    pub keys: Option<u64>,
+    /// How many bytes of them are allowed.
+    pub key_bytes: Option<u64>,
+    /// How many entries of indexes of archives are allowed.
+    pub index: Option<u64>,
+    /// How many files and members are allowed.
+    pub rows: Option<u64>,
+    /// The arguments of a linker.
+    pub words: Vec<&'a str>,
 }
 
 impl CommandArgs<'_> {
@@ -259,6 +271,11 @@ fn read<'a>(
         max_write: options.number("max-write"),
         missing: options.is_set("missing"),
         leave: options.is_set("leave"),
+        keys: options.number("keys"),
+        key_bytes: options.number("key-bytes"),
+        index: options.number("index"),
+        rows: options.number("rows"),
+        words: options.values(alloc, "WORDS")?,
     })
 }
 

@@ -26,6 +26,8 @@ pub(crate) const BYTES: u16 = 2048;
 
 pub(crate) const IMAGE: u16 = 4096;
 
+pub(crate) const RESOLVE: u16 = 8192;
+
 /// Those that read the file that an argument names.
 pub(crate) const ONE_FILE: u16 = SHOW | FIND | APPLY | BYTES | IMAGE | ARCHIVE;
 

@@ -8,17 +8,18 @@ ghost use Rattle.elf_cli.specs.Args.{command_named};
 use crate::builder::{CommandSpec, clap_command_of, new_command, with_command};
 use crate::command_args::CommandName;
 use crate::command_sets::{
-    APPLY, ARCHIVE, BYTES, CHECK, EXPLAIN, FIND, IMAGE, LIST, NEEDS, SAMPLE, SHOW, TRAITS, VERSION,
+    APPLY, ARCHIVE, BYTES, CHECK, EXPLAIN, FIND, IMAGE, LIST, NEEDS, RESOLVE, SAMPLE, SHOW, TRAITS,
+    VERSION,
 };
 use crate::texts::{
     ABOUT, CHECKED, COPIED, EXPLAINED, FOUND, HARDENED, IMAGED, ITEMS, LISTED, MEMBERS, MORE,
-    NEEDED, SAMPLED, SHOWN,
+    NEEDED, RESOLVED, SAMPLED, SHOWN,
 };
 use clap::Command;
 use std::alloc::{AllocError, Global};
 
 // In the order of `CommandName`, which is that of help.
-static COMMANDS: [CommandSpec; 13] = [
+static COMMANDS: [CommandSpec; 14] = [
     CommandSpec {
         name: "show",
         command: CommandName::Show,
@@ -98,6 +99,14 @@ static COMMANDS: [CommandSpec; 13] = [
         bit: NEEDS,
         about: "Print which libraries programs need and where they are",
         more: NEEDED,
+    },
+    CommandSpec {
+        name: "resolve",
+        command: CommandName::Resolve,
+        alias: None,
+        bit: RESOLVE,
+        about: "Print where a linker takes each symbol of a link from",
+        more: RESOLVED,
     },
     CommandSpec {
         name: "archive",

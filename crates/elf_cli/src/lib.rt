@@ -26,6 +26,7 @@ mod parser;
 mod part_names;
 mod place_numbers;
 mod program_arguments;
+mod resolve_arguments;
 mod state_texts;
 mod texts;
 mod usage_errors;

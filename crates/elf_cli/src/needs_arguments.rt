@@ -1,6 +1,6 @@
 //! The options of `needs`, in the order of help.
 use crate::arg_specs::{ArgKind, ArgSpec};
-use crate::command_sets::NEEDS;
+use crate::command_sets::{NEEDS, RESOLVE};
 use clap::builder::ValueParser;
 
 pub(crate) const MAX_TRIES: ArgSpec = ArgSpec {
@@ -88,5 +88,5 @@ pub(crate) const PROBLEMS: ArgSpec = ArgSpec {
     alias: None,
     kind: ArgKind::Flag,
     help: "Print only the lines that make the status 1",
-    commands: NEEDS,
+    commands: NEEDS | RESOLVE,
 };

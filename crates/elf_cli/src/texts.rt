@@ -10,7 +10,6 @@ Examples:
   elfsee needs /bin/ls
   elfsee check /usr/lib
   elfsee traits --require relro=full,stack=nx /usr/bin
-  elfsee explain table-outside
 
 'elfsee help COMMAND' prints the options of a command, and the columns of its
 lines. Each line begins with a letter; a table (-t) has the names of columns.
@@ -270,6 +269,46 @@ Columns:
   U  object provider state version
   B  object symbol state definer definition name
   @  path";
+
+pub(crate) const RESOLVED: &str = "\
+WORDS are the arguments of GNU ld for x86-64, in their order, as 'gcc -###'
+prints them after the name of the linker. Nothing is linked or run. Prints one
+line for each file: I, its index, its kind, for a member of an archive the index
+of that and the member's, and its path or name; and after each member that was
+taken for a symbol W, its index, the index of the file that needs it, and the
+symbol.
+  object, shared, archive, member  it is part of the link
+  unneeded  nothing needs it, and --as-needed precedes it
+  same      a shared library of this name is part of the link
+  missing   there is no such file
+  refused   it is malformed, and the link ends there
+Then G for each symbol of an object: its state, the index of the file that
+defines it, the index of the first that references it, and its name.
+  defined, weakdef, common, shared  this file's definition counts
+  multiple  M lines follow with the other files that define it
+  order     no file defines it, and O lines follow: an archive, or a library
+            that was not needed then, has it and precedes the file that needs it
+  undef     no file defines it
+  weak      no file defines it, and none has to
+  linker    the linker defines it
+  unused    no file defines it, and none needs it
+After order and weak O, the index of the archive or the library, the member's,
+and the symbol. With --problems only the lines that make the status 1 are
+printed.
+
+Exit status: 1 if a symbol is undef, order or multiple, or a file is missing or
+refused.
+
+Examples:
+  elfsee resolve -- main.o -lfoo
+  elfsee resolve --problems -- -static crt1.o crti.o main.o -lc crtn.o
+
+Columns:
+  I  index kind archive member path
+  W  index needed_by name
+  G  state definer referrer name
+  M  index name
+  O  index member name";
 
 pub(crate) const EXPLAINED: &str = "\
 Each cause is that of a line !, each state that of a line C, F, L, I, U or B.

@@ -11,7 +11,7 @@ use Rattle.elf_reloc.specs.Queried.{query_as}
 use Rattle.elf_requests.specs.AskedTraits.{AreRequired}
 use Rattle.elf_requests.specs.Layouts.{LaysWords}
 use Rattle.elf_requests.specs.declared.parsed_command.ParsedCommand.{ParsedCommand}
-use Rattle.elf_requests.specs.declared.parsed_command.ParsedCommand.TheVariants.{File, Laid, Chosen, Image, Check, List as Listings, Traits, Needs, Archive, Explain, Version}
+use Rattle.elf_requests.specs.declared.parsed_command.ParsedCommand.TheVariants.{File, Laid, Chosen, Image, Check, List as Listings, Traits, Needs, Resolve as Linked, Archive, Explain, Version}
 use Rattle.elf_requests.specs.declared.requests.Request.{Request}
 use Rattle.elf_requests.specs.declared.requests.Task.{Task}
 use Rattle.elf_requests.specs.declared.requests.Task.TheVariants.{Show, Find, Resolve, Apply, Bytes, Place}
@@ -81,6 +81,7 @@ Makes args (Listings asked) = (asked ≡ args) × (args.command ≡ command.List
 Makes args (Traits asked) =
     (asked.args ≡ args) × (args.command ≡ command.Traits) × AreRequired (option_map (λ text. text.now) args.require) asked.required.items
 Makes args (Needs asked) = (asked ≡ args) × (args.command ≡ command.Needs)
+Makes args (Linked asked) = (asked ≡ args) × (args.command ≡ command.Resolve)
 Makes args (Archive asked) = (asked ≡ args) × (args.command ≡ command.Archive)
 Makes args (Image asked) = (asked ≡ args) × (args.command ≡ command.Image)
 Makes args (Explain asked) = (asked ≡ args) × (args.command ≡ command.Explain)

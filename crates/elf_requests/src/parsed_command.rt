@@ -20,6 +20,8 @@ pub enum ParsedCommand<'a> {
     Traits(TraitsRequest<'a>),
     /// Print the libraries that programs need.
     Needs(CommandArgs<'a>),
+    /// Print where a linker takes symbols from.
+    Resolve(CommandArgs<'a>),
     /// List the members of an archive.
     Archive(CommandArgs<'a>),
     /// Write a segment as a loader leaves it, or print what its image lacks.

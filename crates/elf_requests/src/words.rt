@@ -104,6 +104,7 @@ fn made_of<'a>(
         CommandName::List => Ok(ParsedCommand::List(args)),
         CommandName::Traits => Ok(ParsedCommand::Traits(TraitsRequest { args, required })),
         CommandName::Needs => Ok(ParsedCommand::Needs(args)),
+        CommandName::Resolve => Ok(ParsedCommand::Resolve(args)),
         CommandName::Archive => Ok(ParsedCommand::Archive(args)),
         CommandName::Explain => Ok(ParsedCommand::Explain(args)),
         CommandName::Version => Ok(ParsedCommand::Version),

@@ -8,3 +8,6 @@ pub mod LinkLaws
 pub mod ExamplesLinks
 pub mod ExamplesFiles
 pub mod LinkMembers
+pub mod MemberExtents
+pub mod Ranges
+pub mod Lines

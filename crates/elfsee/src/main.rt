@@ -3,7 +3,13 @@
 
 mod archives;
 mod images;
+mod input_kinds;
 mod layouts;
+mod link_inputs;
+mod link_texts;
+mod linker_options;
+mod linker_scripts;
+mod linker_words;
 mod lists;
 mod many;
 mod missing_reason;
@@ -11,6 +17,8 @@ mod names;
 mod needs;
 mod needs_of_files;
 mod needs_report;
+mod resolve;
+mod script_inputs;
 mod task_end;
 
 ghost use Rattle.std.specs.Prelude.{◌≡◌, ◌⊎◌, IfErr, IfOk, map, string_bytes};
@@ -39,10 +47,12 @@ use many::{check_many, report_traits};
 use missing_reason::report_missing_reason;
 use names::show_chosen;
 use needs::report_needs;
+use resolve::report_link;
 use std::alloc::Global;
 use std::io::{self, BufWriter, Input, IsTerminal, Stderr, Write};
 use std::os::unix::fs::FileExt;
 use std::process::ExitCode;
+use std::random::RandomSource;
 use std::rt::{Env, Files};
 use task_end::task_ending;
 
@@ -60,7 +70,7 @@ fn main(rt: HostRuntime) -> ExitCode {
 /// Parses the arguments, and carries out what they request. Messages for wrong arguments, and help,
 /// are written to `errors`, and so are messages for the lines of a file of items; the progress of a
 /// check of many files is shown on a terminal, if there is one that does not get the lines.
-fn answer<R: Env + Files + Print + Input + AllocGlobal>(
+fn answer<R: Env + Files + Print + Input + RandomSource + AllocGlobal>(
     rt: &R,
     errors: Stderr,
     terminal: Option<Stderr>,
@@ -80,7 +90,7 @@ where
 }
 
 /// Carries out a request.
-fn carry_out<R: Files + Print + Input + AllocGlobal>(
+fn carry_out<R: Files + Print + Input + RandomSource + AllocGlobal>(
     rt: &R,
     asked: &ParsedCommand<'_>,
     errors: Stderr,
@@ -97,6 +107,7 @@ where
         ParsedCommand::List(asked) => list_files(rt, asked, terminal),
         ParsedCommand::Traits(traits) => report_traits(rt, traits, terminal),
         ParsedCommand::Needs(asked) => report_needs(rt, asked, terminal),
+        ParsedCommand::Resolve(asked) => report_link(rt, asked, errors),
         ParsedCommand::Archive(archiving) => list_archive(rt, archiving),
         ParsedCommand::Image(asked) => write_images(rt, asked, errors),
         ParsedCommand::Explain(asked) => report_explanations(rt, &asked.causes, errors),

@@ -40,4 +40,9 @@ returns-clause-options c = record {
   max_write = c.number-3.ensures;
   missing = c.is_set-6.ensures;
   leave = c.is_set-7.ensures;
+  keys = c.number-4.ensures;
+  key_bytes = c.number-5.ensures;
+  index = c.number-6.ensures;
+  link_rows = c.number-7.ensures;
+  words = c.in_ok-values-5.ensures;
 }

@@ -1,0 +1,7 @@
+-- After a source was set to all bytes of its parent, the data of a member that lie within its length
+-- lie within the parent.
+use Rattle.std.proofs.Common.{arith}
+use Rattle.elf_resolve.proofs.members.narrow_to.Goals as goal
+
+pub narrow-requires : goal.narrow-requires
+narrow-requires g c = (record { size = c.widen.new.self.seen.size; file = c.widen.new.self.seen.file }, c.widen.ensures.is_whole, omega arith)

@@ -1,0 +1,108 @@
+//! The memory of a link, in parts.
+
+use crate::archives::ArchiveTables;
+use crate::key_chains::KeyChains;
+use crate::libraries::LibraryList;
+use crate::passes::Link;
+use crate::resolver::{InputState, OpenGroup};
+use crate::room::LinkCaps;
+use crate::rows::RowTable;
+use crate::spare_keys::SpareKeys;
+use crate::table::KeyTable;
+use elf_model::LinkRowKind;
+use std::alloc::{AllocError, Global};
+use std::hash::RandomState;
+
+/// What is listed of archives, and by keys.
+#[derive(Drop)]
+pub(crate) struct KeyLists {
+    /// The members and the entries of archives.
+    pub tables: ArchiveTables,
+    /// The entries by their keys.
+    pub offers: KeyChains,
+    /// The further definitions by their keys.
+    pub further: KeyChains,
+    /// The libraries that are not needed, by the keys that they have.
+    pub spare: SpareKeys,
+}
+
+/// What is noted of members and rows.
+#[derive(Drop)]
+pub(crate) struct RowMarks {
+    /// Whether a member is taken.
+    pub taken: Vec<bool>,
+    /// Whether a line of a fault names a row.
+    pub problems: Vec<bool>,
+    /// The kind of a row, if it is not that with which it was added.
+    pub kinds: Vec<Option<LinkRowKind>>,
+    /// The libraries.
+    pub libraries: LibraryList,
+}
+
+/// What is done at inputs once more, and the groups that are open.
+#[derive(Drop)]
+pub(crate) struct StepStates {
+    /// What is done at an input.
+    pub states: Vec<InputState>,
+    /// The groups.
+    pub groups: Vec<OpenGroup>,
+}
+
+/// Allocates the keys and the rows of a link.
+///
+/// # Errors
+/// Out of memory.
+pub(crate) fn new_link<'a>(
+    alloc: Global,
+    hasher: RandomState,
+    caps: &LinkCaps,
+    bytes: &'a mut [u8],
+) -> Result<Link<'a>, AllocError> {
+    let keys = KeyTable::new(alloc, hasher, caps.keys, caps.index, bytes)?;
+    let rows = RowTable::new(alloc, caps.rows)?;
+    Ok(Link { keys, rows })
+}
+
+impl KeyLists {
+    /// Allocates lists.
+    ///
+    /// # Errors
+    /// Out of memory.
+    pub(crate) fn new(alloc: Global, caps: &LinkCaps) -> Result<KeyLists, AllocError> {
+        let entries = caps.index as usize;
+        Ok(KeyLists {
+            tables: ArchiveTables::new(alloc, caps.index, caps.rows)?,
+            offers: KeyChains::new(alloc, caps.keys, entries.saturating_mul(2))?,
+            further: KeyChains::new(alloc, caps.keys, entries)?,
+            spare: SpareKeys::new(alloc, caps.keys, caps.index)?,
+        })
+    }
+}
+
+impl RowMarks {
+    /// Allocates marks.
+    ///
+    /// # Errors
+    /// Out of memory.
+    pub(crate) fn new(alloc: Global, caps: &LinkCaps) -> Result<RowMarks, AllocError> {
+        Ok(RowMarks {
+            taken: vec![in alloc; false; caps.index as usize]?,
+            problems: vec![in alloc; false; caps.rows as usize]?,
+            kinds: vec![in alloc; None; caps.rows as usize]?,
+            libraries: LibraryList::new(alloc, caps.rows)?,
+        })
+    }
+}
+
+impl StepStates {
+    /// Allocates the states of as many inputs and groups as there are steps.
+    ///
+    /// # Errors
+    /// Out of memory.
+    pub(crate) fn new(alloc: Global, steps: usize) -> Result<StepStates, AllocError> {
+        Ok(StepStates {
+            states: vec![in alloc; InputState::New; steps]?,
+            groups: Vec::with_capacity(alloc, steps)?,
+        })
+    }
+}

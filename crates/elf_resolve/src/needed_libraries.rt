@@ -1,0 +1,162 @@
+//! The shared libraries of a link, and which of them are needed.
+
+use crate::asked_libraries::{open_library, reopen_library};
+use crate::libraries::LinkLibrary;
+use crate::link_faults::LinkFault;
+use crate::link_files::InputFiles;
+use crate::resolver::{InputState, Resolver};
+use crate::spare_libraries::offer_keys;
+use elf_model::LinkRowKind;
+use elf_source::{Counted, Source};
+
+/// A shared library that is opened for the first time.
+#[derive(Clone, Copy)]
+pub(crate) struct NewLibrary<'p> {
+    /// The index of its input.
+    pub input: u32,
+    /// Its row.
+    pub row: u32,
+    /// Its path.
+    pub path: &'p [u8],
+    /// Whether it is taken only if it is needed.
+    pub as_needed: bool,
+}
+
+/// What became of a shared library.
+#[derive(Clone, Copy)]
+pub(crate) enum LibraryEnd {
+    /// Another one of its name is part of the link.
+    Same,
+    /// It is part of the link.
+    Taken,
+    /// It is not needed; this is its index.
+    Unneeded(usize),
+}
+
+impl Resolver<'_> {
+    /// Takes a shared library for the first time.
+    ///
+    /// # Errors
+    /// The first fault of the library; there is no room for it or a key.
+    pub(crate) fn take_library<S: Source>(
+        &mut self,
+        src: &mut Counted<S>,
+        library: NewLibrary<'_>,
+    ) -> Result<(), LinkFault> {
+        let keys = &mut self.link.keys;
+        let end = open_library(src, &mut self.room, keys, &mut self.libraries, library)?;
+        self.output.is_dynamic = true;
+        self.end_library(library.row, library.input, end);
+        Ok(())
+    }
+
+    /// Sets the kind of a library's row, and what is done at its input once more.
+    fn end_library(&mut self, row: u32, input: u32, end: LibraryEnd) {
+        match end {
+            LibraryEnd::Same => {
+                self.set_kind(row, LinkRowKind::Same);
+                self.set_state(input, InputState::Done);
+            }
+            LibraryEnd::Taken => {
+                self.set_kind(row, LinkRowKind::Shared);
+                self.set_state(input, InputState::Done);
+            }
+            LibraryEnd::Unneeded(library) => {
+                self.set_kind(row, LinkRowKind::Unneeded);
+                self.set_state(input, InputState::Library(library));
+            }
+        }
+    }
+
+    /// Takes a library that was not needed, if it is now.
+    ///
+    /// # Errors
+    /// It cannot be opened; the first fault of the library; there is no room for a key.
+    pub(crate) fn ask_again<F: InputFiles>(
+        &mut self,
+        files: &mut F,
+        library: usize,
+    ) -> Result<(), LinkFault> {
+        let Some(known) = self.libraries.get(library) else {
+            return Ok(());
+        };
+        self.row = Some(known.row);
+        if self.libraries.has(known.name) {
+            self.end_library(known.row, known.input, LibraryEnd::Same);
+            return Ok(());
+        }
+        let end = self.read_again(files, library, known)?;
+        self.end_library(known.row, known.input, end);
+        Ok(())
+    }
+
+    /// Opens a library once more, and takes it if it is needed.
+    ///
+    /// # Errors
+    /// It cannot be opened; the first fault of the library; there is no room for a key.
+    fn read_again<F: InputFiles>(
+        &mut self,
+        files: &mut F,
+        library: usize,
+        known: LinkLibrary,
+    ) -> Result<LibraryEnd, LinkFault> {
+        let mut src = self.open(files, known.input)?;
+        let keys = &mut self.link.keys;
+        let libraries = &mut self.libraries;
+        let end = reopen_library(
+            &mut src,
+            &mut self.room,
+            keys,
+            libraries,
+            (library, known.row),
+        );
+        self.close(&src);
+        end
+    }
+
+    /// Lists by their keys the libraries that are not needed.
+    ///
+    /// # Errors
+    /// One cannot be opened; the first fault of one; there is no room.
+    pub(crate) fn offer_libraries<F: InputFiles>(
+        &mut self,
+        files: &mut F,
+    ) -> Result<(), LinkFault> {
+        let count = self.libraries.len();
+        for library in (0..count).rev() {
+            self.offer_library(files, library)?;
+        }
+        Ok(())
+    }
+
+    /// Lists a library by its keys, if it is not needed.
+    ///
+    /// # Errors
+    /// It cannot be opened; the first fault of the library; there is no room.
+    fn offer_library<F: InputFiles>(
+        &mut self,
+        files: &mut F,
+        library: usize,
+    ) -> Result<(), LinkFault> {
+        let Some(known) = self.libraries.get(library) else {
+            return Ok(());
+        };
+        if !self.is_unneeded(known.row) {
+            return Ok(());
+        }
+        self.row = Some(known.row);
+        let mut src = self.open(files, known.input)?;
+        let keys = &self.link.keys;
+        let offered = offer_keys(&mut src, &mut self.room, keys, &mut self.spare, known.row);
+        self.close(&src);
+        offered
+    }
+
+    /// Returns `true` if the library of a row is not needed.
+    fn is_unneeded(&self, row: u32) -> bool {
+        matches!(
+            self.kind_of(row, LinkRowKind::Shared),
+            LinkRowKind::Unneeded
+        )
+    }
+}

@@ -1,0 +1,252 @@
+//! The symbols of an object.
+
+use crate::key_marks::KeyMarks;
+use crate::link_faults::{LinkFault, full, refused};
+use crate::object::{ObjectTables, symbol_in};
+use crate::section_marks::SectionMarks;
+use crate::string_buffer::{HeldText, StringBuffer, split_version};
+use crate::symbols::Symbol;
+use crate::table::{KeyFault, KeyTable};
+use elf_model::{LinkCause, SymbolRole, SymbolUse};
+use elf_record::Sym;
+use elf_record::numbers::{
+    SHN_ABS, SHN_COMMON, SHN_LORESERVE, SHN_UNDEF, STB_GLOBAL, STB_WEAK, STT_FUNC, STV_DEFAULT,
+};
+
+/// The binding of a symbol that is one in all of a process, as GNU files have it.
+const STB_GNU_UNIQUE: u8 = 10;
+
+/// The type of a function that is found by a call, as GNU files have it.
+const STT_GNU_IFUNC: u8 = 10;
+
+/// The section index of a common of the large model (psABI, Special Section Indexes).
+const SHN_X86_64_LCOMMON: u16 = 0xff02;
+
+/// The symbol of an object with intermediate code alone.
+const SLIM_MARK: &[u8] = b"__gnu_lto_slim";
+
+/// Takes the symbols of an object that are not local, in order.
+///
+/// # Errors
+/// The first fault of a symbol or its name; there is no room for a key.
+pub(crate) fn take_symbols(
+    tables: ObjectTables,
+    strings: &mut StringBuffer,
+    sections: &SectionMarks,
+    keys: &mut KeyTable<'_>,
+    marks: &mut KeyMarks,
+    row: u32,
+) -> Result<(), LinkFault> {
+    let Some(symbols) = tables.symbols else {
+        return Ok(());
+    };
+    for index in symbols.first..symbols.count {
+        if let Some(symbol) = global_in(strings.bytes(symbols.rows), index) {
+            let at = symbols.place(index);
+            let name = strings.name(symbols.names, u64::from(symbol.st_name), at)?;
+            let symbol = use_of(&symbol, is_in_dropped(&symbol, sections));
+            take_symbol(NamedUse { name, symbol, at }, strings, keys, marks, row)?;
+        }
+    }
+    Ok(())
+}
+
+/// Returns the symbol of an index in the bytes of a table, if it is global, weak or unique.
+pub(crate) fn global_in(rows: &[u8], index: u64) -> Option<Sym> {
+    let symbol = symbol_in(rows, index)?;
+    match symbol.binding() {
+        STB_GLOBAL | STB_WEAK | STB_GNU_UNIQUE => Some(symbol),
+        _ => None,
+    }
+}
+
+/// A symbol of an object: its name, how it uses its keys, and its file offset.
+#[derive(Clone, Copy)]
+struct NamedUse {
+    name: HeldText,
+    symbol: SymbolUse,
+    at: u64,
+}
+
+/// Takes a symbol, if it has a name.
+///
+/// # Errors
+/// `Lto` if it is the mark of an object with intermediate code alone; there is no room for its keys.
+fn take_symbol(
+    named: NamedUse,
+    strings: &mut StringBuffer,
+    keys: &mut KeyTable<'_>,
+    marks: &mut KeyMarks,
+    row: u32,
+) -> Result<(), LinkFault> {
+    let NamedUse { name, symbol, at } = named;
+    if is_lto_mark(strings.bytes(name)) {
+        return refused(at, LinkCause::Lto);
+    }
+    if name.size == 0 {
+        return Ok(());
+    }
+    let (name, default) = key_names(strings, name, symbol.role, at)?;
+    match take_names(strings, name, default, symbol, keys, row) {
+        Ok(()) => {
+            note_names(strings, (name, default), symbol, keys, marks, row);
+            Ok(())
+        }
+        Err(fault) => Err(full(at, fault)),
+    }
+}
+
+/// Notes the keys that an object's symbol has used.
+fn note_names(
+    strings: &StringBuffer,
+    names: (HeldText, Option<HeldText>),
+    symbol: SymbolUse,
+    keys: &KeyTable<'_>,
+    marks: &mut KeyMarks,
+    row: u32,
+) {
+    let (name, default) = names;
+    if let Some(key) = keys.find(strings.bytes(name)) {
+        marks.note_object(key, symbol, row);
+    }
+    let Some(default) = default else {
+        return;
+    };
+    if let Some(key) = keys.find(strings.bytes(default)) {
+        if keys.entry(key).is_own {
+            marks.note_object(key, symbol, row);
+        }
+    }
+}
+
+/// Returns `true` if a name is the mark of an object with intermediate code alone.
+pub(crate) fn is_lto_mark(name: &[u8]) -> bool {
+    name == SLIM_MARK
+}
+
+/// Takes a symbol by its names, which are in a buffer.
+///
+/// # Errors
+/// There is no room for its keys.
+fn take_names(
+    strings: &StringBuffer,
+    name: HeldText,
+    default: Option<HeldText>,
+    symbol: SymbolUse,
+    keys: &mut KeyTable<'_>,
+    row: u32,
+) -> Result<(), KeyFault> {
+    keys.take(symbol_record(strings, name, default, symbol), Some(row))
+}
+
+/// Returns a symbol with its names, which are in a buffer.
+pub(crate) fn symbol_record<'s>(
+    strings: &'s StringBuffer,
+    name: HeldText,
+    default: Option<HeldText>,
+    symbol: SymbolUse,
+) -> Symbol<'s> {
+    Symbol {
+        name: strings.bytes(name),
+        default_name: held_bytes(strings, default),
+        symbol,
+    }
+}
+
+/// Returns the bytes of a text in a buffer, if there is one.
+fn held_bytes(strings: &StringBuffer, text: Option<HeldText>) -> Option<&[u8]> {
+    match text {
+        Some(text) => Some(strings.bytes(text)),
+        None => None,
+    }
+}
+
+/// Returns `true` if a symbol is defined in a section that is dropped.
+fn is_in_dropped(symbol: &Sym, sections: &SectionMarks) -> bool {
+    let section = symbol.st_shndx;
+    section != SHN_UNDEF && section < SHN_LORESERVE && sections.is_dropped(u32::from(section))
+}
+
+/// Returns how a symbol uses its key; a definition in a dropped section is a reference.
+fn use_of(symbol: &Sym, dropped: bool) -> SymbolUse {
+    let role = if dropped {
+        reference_role(symbol)
+    } else {
+        role_of(symbol)
+    };
+    SymbolUse {
+        role,
+        restricted: symbol.visibility() != STV_DEFAULT,
+        dropped,
+        absolute: absolute_value(symbol),
+    }
+}
+
+/// Returns the value of an absolute symbol.
+fn absolute_value(symbol: &Sym) -> Option<u64> {
+    if symbol.st_shndx == SHN_ABS {
+        return Some(symbol.st_value);
+    }
+    None
+}
+
+/// Returns what a reference is to its key.
+fn reference_role(symbol: &Sym) -> SymbolRole {
+    if symbol.binding() == STB_WEAK {
+        return SymbolRole::WeakReference;
+    }
+    SymbolRole::Reference
+}
+
+/// Returns what a symbol is to its key.
+fn role_of(symbol: &Sym) -> SymbolRole {
+    if symbol.st_shndx == SHN_UNDEF {
+        return reference_role(symbol);
+    }
+    if is_common(symbol) {
+        return SymbolRole::Common(symbol.st_size);
+    }
+    if symbol.binding() == STB_WEAK {
+        return SymbolRole::WeakDefinition;
+    }
+    SymbolRole::Definition
+}
+
+/// Returns `true` if a symbol is a common.
+fn is_common(symbol: &Sym) -> bool {
+    symbol.st_shndx == SHN_COMMON || symbol.st_shndx == SHN_X86_64_LCOMMON
+}
+
+/// Returns `true` if a symbol is a definition, not weak and no function.
+pub(crate) fn is_data_definition(symbol: &Sym) -> bool {
+    symbol.binding() != STB_WEAK
+        && symbol.st_shndx != SHN_UNDEF
+        && !is_common(symbol)
+        && !is_function(symbol)
+}
+
+/// Returns `true` if a symbol is a function, or one that is found by a call.
+pub(crate) fn is_function(symbol: &Sym) -> bool {
+    symbol.kind() == STT_FUNC || symbol.kind() == STT_GNU_IFUNC
+}
+
+/// Returns the names of the keys of a symbol: of `NAME@@VERSION` the name `NAME@VERSION` and, unless
+/// it is a reference, `NAME`; of any other name that name.
+///
+/// # Errors
+/// There is no room for a name.
+fn key_names(
+    strings: &mut StringBuffer,
+    name: HeldText,
+    role: SymbolRole,
+    at: u64,
+) -> Result<(HeldText, Option<HeldText>), LinkFault> {
+    let Some((base, version)) = split_version(strings.bytes(name), name) else {
+        return Ok((name, None));
+    };
+    let joined = strings.join(base, version, at)?;
+    match role {
+        SymbolRole::Reference | SymbolRole::WeakReference => Ok((joined, None)),
+        _ => Ok((joined, Some(base))),
+    }
+}

@@ -1,0 +1,248 @@
+//! The tables of a file, read whole.
+ghost use Rattle.std.specs.Prelude.{◌≤◌, IfSome, length};
+
+use crate::link_faults::{LinkFault, file_refused, refused};
+use elf_model::LinkCause;
+use elf_record::Cause;
+use elf_source::{Counted, READ_BYTES, Source};
+use elf_table::{fill, find_nul};
+use memchr::memchr;
+use std::alloc::{AllocError, Global};
+
+/// A table, or a name, in a buffer.
+#[derive(Clone, Copy)]
+pub(crate) struct HeldText {
+    /// The index of its first byte.
+    pub start: usize,
+    /// How many bytes it has.
+    pub size: usize,
+}
+
+/// An empty text.
+pub(crate) const NO_TEXT: HeldText = HeldText { start: 0, size: 0 };
+
+/// Memory for the tables of one file. It is allocated once.
+#[derive(Drop)]
+pub(crate) struct StringBuffer {
+    bytes: Vec<u8>,
+    used: usize,
+}
+
+impl StringBuffer {
+    /// Creates a buffer of `size` bytes.
+    ///
+    /// # Errors
+    /// Out of memory.
+    pub(crate) fn new(alloc: Global, size: u32) -> Result<StringBuffer, AllocError> {
+        let bytes = vec![in alloc; 0u8; size as usize]?;
+        Ok(StringBuffer { bytes, used: 0 })
+    }
+
+    /// Returns how many bytes have tables.
+    pub(crate) fn used(&self) -> usize {
+        self.used
+    }
+
+    /// Forgets the tables after the first `used` bytes.
+    pub(crate) fn forget_after(&mut self, used: usize) {
+        self.used = used.min(self.used);
+    }
+
+    /// Reads `size` bytes at a file offset, each once.
+    ///
+    /// # Errors
+    /// `TooManyKeys` at `place` if there is no room for them; those of [`read_all`].
+    pub(crate) fn read<S: Source>(
+        &mut self,
+        src: &mut Counted<S>,
+        at: u64,
+        size: u64,
+        place: u64,
+    ) -> Result<HeldText, LinkFault> {
+        let start = self.used;
+        let Some(end) = end_within(start, size, self.bytes.len()) else {
+            return refused(place, LinkCause::TooManyKeys);
+        };
+        read_part(src, at, &mut self.bytes, start, end)?;
+        self.used = end;
+        Ok(HeldText {
+            start,
+            size: end - start,
+        })
+    }
+
+    /// Returns the bytes of a text; none if it is not in the buffer.
+    pub(crate) fn bytes(&self, text: HeldText) -> &[u8] {
+        part_of(&self.bytes, text.start, text.size)
+    }
+
+    /// Returns the name at an index of a table (gABI 4, String Table). An empty table has the empty
+    /// name at index 0.
+    ///
+    /// # Errors
+    /// Refused at `at`: `NameOutside` if the index is not below the table's size, `NameUnended` if
+    /// the table ends before the name.
+    pub(crate) fn name(&self, table: HeldText, index: u64, at: u64) -> Result<HeldText, LinkFault> {
+        if table.size == 0 && index == 0 {
+            return Ok(NO_TEXT);
+        }
+        let index = index as usize;
+        let rest = after(self.bytes(table), index);
+        if rest.is_empty() {
+            return file_refused(at, Cause::NameOutside);
+        }
+        match find_nul(rest) {
+            Some(size) => Ok(HeldText {
+                start: table.start.saturating_add(index),
+                size,
+            }),
+            None => file_refused(at, Cause::NameUnended),
+        }
+    }
+
+    /// Appends a name, `@` and a version, and returns the text.
+    ///
+    /// # Errors
+    /// `TooManyKeys` at `at` if there is no room for it.
+    pub(crate) fn join(
+        &mut self,
+        name: HeldText,
+        version: HeldText,
+        at: u64,
+    ) -> Result<HeldText, LinkFault> {
+        let start = self.used;
+        let between = start.saturating_add(name.size);
+        let next = between.saturating_add(1);
+        let size = next.saturating_sub(start).saturating_add(version.size);
+        if !copy_part(&mut self.bytes, name, start)
+            || !put(&mut self.bytes, between, b'@')
+            || !copy_part(&mut self.bytes, version, next)
+        {
+            return refused(at, LinkCause::TooManyKeys);
+        }
+        Ok(HeldText { start, size })
+    }
+}
+
+/// Copies a text to an index; returns `false` if it does not fit.
+fn copy_part(bytes: &mut [u8], text: HeldText, to: usize) -> bool {
+    let length = bytes.len();
+    let HeldText { start, size } = text;
+    if start > length || size > length - start || to > length || size > length - to {
+        return false;
+    }
+    bytes.copy_within(start..start + size, to);
+    true
+}
+
+/// Writes a byte at an index; returns `false` if it does not fit.
+fn put(bytes: &mut [u8], index: usize, byte: u8) -> bool {
+    match bytes.get_mut(index) {
+        Some(place) => {
+            *place = byte;
+            true
+        }
+        None => false,
+    }
+}
+
+/// Returns the index after `size` bytes from an index on, if there are so many of `most`.
+fn end_within(start: usize, size: u64, most: usize) -> Option<usize>
+    ensures { IfSome result (λ end. (start ≤ end) × (end ≤ most)) }
+{
+    if start > most || size > (most - start) as u64 {
+        return None;
+    }
+    Some(start + size as usize)
+}
+
+/// Returns `size` bytes from an index on; none if there are fewer.
+pub(crate) fn part_of(bytes: &[u8], start: usize, size: usize) -> &[u8] {
+    match after(bytes, start).split_at_checked(size) {
+        Some((part, _)) => part,
+        None => b"",
+    }
+}
+
+/// Returns the bytes from an index on; none past the end.
+fn after(bytes: &[u8], start: usize) -> &[u8] {
+    match bytes.split_at_checked(start) {
+        Some((_, rest)) => rest,
+        None => b"",
+    }
+}
+
+/// Fills `out` with the bytes at a file offset, in reads of at most 4,096 bytes.
+///
+/// # Errors
+/// `TableOutside` at a read that is not within the file; otherwise a read fault, or a refusal for
+/// lack of budget, at its offset.
+pub(crate) fn read_all<S: Source>(
+    src: &mut Counted<S>,
+    at: u64,
+    out: &mut [u8],
+) -> Result<(), LinkFault> {
+    let mut place = at;
+    for piece in out.chunks_mut(READ_BYTES) {
+        let count = piece.len() as u64;
+        read_piece(src, place, piece)?;
+        place = place.saturating_add(count);
+    }
+    Ok(())
+}
+
+/// Fills the bytes from an index up to another with the bytes at a file offset.
+///
+/// # Errors
+/// Those of [`read_all`].
+fn read_part<S: Source>(
+    src: &mut Counted<S>,
+    at: u64,
+    bytes: &mut [u8],
+    start: usize,
+    end: usize,
+) -> Result<(), LinkFault>
+    requires order { start ≤ end }
+    requires within { end ≤ length bytes.old }
+{
+    read_all(src, at, &mut bytes[start..end])
+}
+
+/// Fills `out`, at most 4,096 bytes, with the bytes at a file offset.
+///
+/// # Errors
+/// Those of [`read_all`].
+fn read_piece<S: Source>(src: &mut Counted<S>, at: u64, out: &mut [u8]) -> Result<(), LinkFault> {
+    let length = src.length();
+    if out.len() > READ_BYTES || at > length || out.len() as u64 > length - at {
+        return file_refused(at, Cause::TableOutside);
+    }
+    Ok(fill(src, at, out)?)
+}
+
+/// Returns the parts of a name `NAME@@VERSION`, if it is one: the first `@` is not its first byte,
+/// and another follows.
+pub(crate) fn split_version(bytes: &[u8], name: HeldText) -> Option<(HeldText, HeldText)> {
+    let place = memchr(b'@', bytes)?;
+    let version = place.saturating_add(2);
+    if place == 0 || !is_sign(bytes, place.saturating_add(1)) {
+        return None;
+    }
+    let base = HeldText {
+        start: name.start,
+        size: place,
+    };
+    let version = HeldText {
+        start: name.start.saturating_add(version),
+        size: name.size.saturating_sub(version),
+    };
+    Some((base, version))
+}
+
+/// Returns `true` if the byte at an index is `@`.
+fn is_sign(bytes: &[u8], index: usize) -> bool {
+    match bytes.get(index) {
+        Some(byte) => *byte == b'@',
+        None => false,
+    }
+}
