@@ -27,7 +27,7 @@ OUTPUT_BYTES = 65536
 LAYOUT_BYTES = 40000
 # What is requested for the arguments, with all commands and options, and what of it is held at one time: less than these
 # numbers of bytes. A list that grows is requested anew each time.
-WORDS_BYTES, WORDS_HELD = 256000, 146000
+WORDS_BYTES, WORDS_HELD = 272000, 156000
 # The pages of a file that are kept if there is no read budget, each with its offset and its length.
 PAGES_BYTES = 64 * (4096 + 16)
 OUT_OF_MEMORY = b"elfsee: out of memory\n"

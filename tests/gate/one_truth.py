@@ -107,7 +107,8 @@ def options_of(body):
         if kind in ("Flag", "Value", "Repeated", "Number", "Count", "Filled"):
             span = re.search(r"igned\((\d+), (\d+)\)", behind.replace("_", ""))
             default = re.search(r'"(.*?)"', behind) if kind == "Count" else re.search(r"\[default: (\d+)\]", told)
-            options[name] = (f"{span[1]} to {span[2]}" if span else None, default[1] if default else None)
+            # `--headers` of resolve has another default than that of the others, which come first.
+            options.setdefault(name, (f"{span[1]} to {span[2]}" if span else None, default[1] if default else None))
     return options
 
 
@@ -192,6 +193,8 @@ def endings_of(sources):
     endings += re.findall(r'NamesFault::\w+ => \((\d+), "(.+?)"\),', of_names)
     of_words = read(sources, "crates/elf_cli/src/program_arguments.rt")
     endings.append(("2", one(r'const UNKNOWN_TRAIT: &\[u8\] = b"(.*): ";', of_words, "the line about a required trait")))
+    of_links = read(sources, "crates/elfsee/src/resolve.rt")
+    endings.append(("2", one(r'line: line_of\(b"(.*) "\)', of_links, "the line about an argument of a linker") + " WORD"))
     for status, line in endings:
         statuses.setdefault(status, set()).add(line)
     return statuses
@@ -247,6 +250,15 @@ def names_of(sources, numbers):
     return tables
 
 
+def columns_of_links(sources):
+    """The columns of the lines of `resolve`, which has no table."""
+    lines = set()
+    for body in re.findall(r"^(?:pub )?fn .*?^\}", read(sources, "crates/elf_resolve/src/lines.rt"), re.S | re.M):
+        for letter, last, rest in re.findall(r'begin_named::<R>\(.*?, b"(\w)", b"(\w+)"\);(.*)', body, re.S):
+            lines.add(f"{letter}  {' '.join(re.findall(r'put_[a-z]+::<R>[(].*?, b.([a-z_]+).', rest) + [last])}")
+    return lines
+
+
 class Truth:
     """What the program's sources have."""
 
@@ -274,7 +286,7 @@ class Truth:
         headings = one(r"const HEADINGS.*?= \[(.*?)^\];", read(sources, "crates/elf_format/src/table_writer.rt"), "the headings")
         # Each letter, and the columns of its lines; those of objects are a tree in a table.
         self.columns = {f"{letter}  {' '.join(names.split())}" for letter, names in re.findall(r"b'(.)' as u64,\s*\"(.*?)\"", headings)
-                        if letter != "L"} | {"L  index needed_by state place cause path"}
+                        if letter != "L"} | {"L  index needed_by state place cause path"} | columns_of_links(sources)
         # The other names of options and of commands.
         self.aliases = set(re.findall(r'ArgSpec \{\s*name: "[\w-]+",\s*short: .*?,\n\s*alias: Some\("(.*?)"\)', body))
         self.command_aliases = set(re.findall(r'command: CommandName::\w+,\s*alias: Some\("(.*?)"\)', body))
@@ -320,13 +332,13 @@ def check_help(counts, truth, program):
     counts.same("number of lines above 40", "elfsee --help", {0}, {max(0, text.count("\n") - 40)})
     counts.same("other name of a command", "elfsee --help", truth.command_aliases, set(re.findall(r"\[alias: (\w+)\]", listed)))
     said, columns, aliases = {}, set(), set()
-    for command in truth.commands:
+    for command in sorted(truth.commands):
         _, _, more = help_of(program, "help", command)
         aliases.update(re.findall(r"\[alias:\s+--([\w-]+)\]", more))
         wide = {line for line in more.split("\n") + text.split("\n") if len(line) > 80}
         counts.same("line of more than 80 columns", f"elfsee help {command}", set(), wide)
         options = options_said("\n".join(line.strip() for line in more.split("\n")))
-        said.update(options)
+        said = {**options, **said}
         parts = re.search(r"\[possible values: (.*?)\]", " ".join(more.split()))
         if "only" in options:
             own = {"members"} if command == "archive" else set()

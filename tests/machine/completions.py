@@ -24,7 +24,7 @@ import time
 
 TOP = os.path.dirname(os.path.dirname(os.path.dirname(os.path.realpath(__file__))))
 OWN = os.path.join(TOP, "completions")
-COMMANDS = {"show", "sample", "find", "apply", "check", "list", "traits", "needs", "archive", "explain", "version", "help"}
+COMMANDS = {"show", "sample", "find", "apply", "bytes", "image", "check", "list", "traits", "needs", "resolve", "archive", "explain", "version", "help"}
 PARTS = {"header", "sections", "segments", "symbols", "relocs", "notes", "dynamic", "versions"}
 OPTIONS = {"--headers", "--names", "--max-read", "--only", "--gnu", "--by-segments", "--json", "--table", "--help"}
 NAMED = {"--versions", "--name", "--name-list", "--defined", "--undefined", "--dynamic", "--at", "--address"}

@@ -1,0 +1,208 @@
+#!/usr/bin/env python3
+"""Compares `elfsee resolve` with a second implementation of the rules (tests/again/resolved.py), over generated jobs and
+changed copies of their files.
+
+    tests/again/resolve_again.py [--program PROGRAM] [--quick] [--jobs N] [--copies N]
+
+Without PROGRAM ./build makes it. --quick takes 150 jobs and 150 copies, instead of 1,500 and 3,000. Jobs have objects with
+references, commons, weak, absolute and unique definitions, visibilities, versions, groups of which one is kept, archives
+with an index of either size, whole archives and groups within groups. One job has a key for each order of three kinds of
+symbols. In each copy some bytes of one file differ: of its headers, its tables, its index. Then come archives that are
+malformed, limits at their edges, and budgets of all sizes. The last line is `N passed, N failed`, and the status is 0 only
+if none failed and one passed."""
+
+import itertools
+import os
+import random
+import subprocess
+import sys
+import tempfile
+
+sys.dont_write_bytecode = True
+sys.path.insert(0, os.path.join(os.path.dirname(os.path.realpath(__file__)), "..", "common"))
+import made_archives  # pylint: disable=wrong-import-position
+import made_links  # pylint: disable=wrong-import-position
+import resolved  # pylint: disable=wrong-import-position
+from made_links import (ABS, COMMON, DATA, FUNC, OBJECT, TEXT, UNDEF, WEAK, Symbol, archive, relocatable)  # pylint: disable=wrong-import-position
+from testing import Counts, option_reader, program_of  # pylint: disable=wrong-import-position
+
+SMALL = ["--keys", "2000", "--key-bytes", "100000", "--index", "2000", "--rows", "500", "--headers", "200"]
+# What a symbol can be of an object.
+SORTS = {
+    "reference": lambda name: Symbol(name), "weak reference": lambda name: Symbol(name, UNDEF, WEAK),
+    "common of 4": lambda name: Symbol(name, COMMON, 1, OBJECT, 8, 4), "common of 8": lambda name: Symbol(name, COMMON, 1, OBJECT, 8, 8),
+    "weak definition": lambda name: Symbol(name, TEXT, WEAK, FUNC), "definition": lambda name: Symbol(name, DATA, 1, OBJECT, 0, 4),
+    "absolute 1": lambda name: Symbol(name, ABS, 1, 0, 1), "absolute 2": lambda name: Symbol(name, ABS, 1, 0, 2),
+    "hidden reference": lambda name: Symbol(name, UNDEF, 1, 0, 0, 0, 2), "nothing": lambda name: None,
+}
+
+
+class Jobs(Counts):
+    """Jobs in a directory, by the program and by the second implementation."""
+
+    def __init__(self, program, folder):
+        super().__init__()
+        self.program = program
+        os.chdir(folder)
+
+    def run(self, words, options=()):
+        done = subprocess.run([self.program, "resolve", *(options or SMALL), "--", *words], capture_output=True, timeout=60,
+                              check=False, env={"PATH": "/usr/bin:/bin", "LC_ALL": "C"})
+        return done.stdout.splitlines(), done.returncode, done.stderr
+
+    def compare(self, what, files, words):
+        """Writes the files of a job and compares both answers."""
+        for name, content in files.items():
+            with open(name, "wb") as file:
+                file.write(content)
+        lines, status = resolved.answer(words, 200)
+        got = self.run(words)
+        self.check(what, (lines, status, b""), got)
+        return got
+
+    def three_kinds(self):
+        """A key for each order of three kinds of symbols, in one job of three objects."""
+        chosen = list(itertools.product(SORTS, repeat=3))
+        files = {}
+        for place in range(3):
+            symbols = [SORTS[sorts[place]](b"k%d" % number) for number, sorts in enumerate(chosen)]
+            files[b"t%d.o" % place] = relocatable([symbol for symbol in symbols if symbol])
+        self.compare(f"{len(chosen)} orders of three kinds", files, [b"-e", b"0", *sorted(files)])
+
+    def random_jobs(self, rng, count):
+        for number in range(count):
+            files, words = made_links.random_job(rng, libraries=3 * (number % 2))
+            self.compare(f"job {number}: {b' '.join(words).decode()}", files, words)
+
+    def changed_copies(self, rng, count):
+        for number in range(count):
+            files, words = made_links.random_job(rng, libraries=3 * (number % 2))
+            name = rng.choice(sorted(set(words) & set(files)))
+            files[name] = changed(rng, files[name])
+            self.compare(f"copy {number} of {name.decode()}: {b' '.join(words).decode()}", files, words)
+
+    def malformed(self):
+        """Archives whose index or whose members are malformed."""
+        for name, content in malformed_archives():
+            self.compare(name, {b"a.o": relocatable([Symbol(b"f1"), Symbol(b"f2")]), b"l.a": content}, [b"a.o", b"l.a", b"a.o"])
+
+    def limits(self):
+        """Each limit, with exactly as much as a job needs, and with one less."""
+        files = {b"a.o": relocatable([Symbol(b"first"), Symbol(b"second")]),
+                 b"l.a": archive([(b"m.o", relocatable([Symbol(b"first", TEXT)]))], [(b"first", 0), (b"other", 0)])}
+        words = [b"a.o", b"l.a"]
+        whole = self.compare("a job without limits", files, words)
+        needs = {"--keys": 4, "--key-bytes": 6 + 5 + 6 + 5, "--index": 2, "--rows": 3}
+        for limit, least in needs.items():
+            sure = ["--keys", "100", "--key-bytes", "1000", "--index", "100", "--rows", "100", "--headers", "100"]
+            place = sure.index(limit) + 1
+            for value, is_enough in ((least, True), (least - 1, False)):
+                # The tables of a file have as many bytes as the names.
+                if limit == "--key-bytes":
+                    continue
+                sure[place] = str(value)
+                lines, status, _ = self.run(words, sure)
+                word = b"too-many-keys" if limit == "--keys" else b"too-many-rows"
+                is_so = (lines, status) == whole[:2] if is_enough else status == 1 and lines[-1].split()[-1] == word
+                self.quiet_case(f"{limit} {value}", "" if is_so else repr(lines[-3:]))
+
+    def budgets(self, rng, count):
+        """Within any budget the answer is whole, or the lines up to a refusal for lack of budget."""
+        for number in range(count):
+            files, words = made_links.random_job(rng)
+            whole = self.compare(f"budgets of job {number}", files, words)
+            for budget in sorted({0, 1, 63, 64, *(rng.randrange(12000) for _ in range(8))}):
+                lines, status, _ = self.run(words, [*SMALL, "--max-read", str(budget)])
+                rows = [line for line in whole[0] if line[:1] in b"IW"]
+                is_so = (lines, status) == whole[:2] or status == 1 and lines[-1].endswith(b" budget") \
+                    and are_front(lines[:-1], rows)
+                self.quiet_case(f"budget {budget} of job {number}", "" if is_so else repr(lines[-2:]))
+
+
+def are_front(lines, rows):
+    """Whether lines are the first ones of some rows, but that a file may be refused."""
+    return all(line == row or line.split()[2:3] == [b"refused"] and line.split()[:2] == row.split()[:2] for line, row in zip(lines, rows))
+
+
+def changed(rng, content):
+    """A copy with a few bytes changed, most of them in what tells the sizes of tables, or cut."""
+    copy = bytearray(content)
+    for _ in range(rng.randrange(1, 4)):
+        copy[rng.choice((rng.randrange(len(copy)), -1 - rng.randrange(min(700, len(copy))), rng.randrange(min(300, len(copy)))))] = \
+            rng.choice((0, 1, 2, 3, 17, 0x40, 0x60, 0x80, 0xff, rng.randrange(256)))
+    return bytes(copy[:rng.randrange(len(copy) + 1)] if rng.random() < 0.1 else copy)
+
+
+def malformed_archives():
+    """Archives, by what is odd in each."""
+    data = relocatable([Symbol(b"f1", TEXT), Symbol(b"f3")])
+    member = made_archives.member
+    front, behind = made_archives.MAGIC, member(b"m.o/", data)
+
+    def indexed(*numbers, names=b"f1\0", name=b"/", width=4, size=None):
+        index = b"".join(number.to_bytes(width, "big") for number in numbers) + names
+        return front + made_archives.header(name, b"%d" % (len(index) if size is None else size)) + index + b"\n" * (len(index) % 2) + behind
+
+    at = 8 + 60 + 12
+    yield "a whole index", indexed(1, at)
+    yield "an index of 64 bits", indexed(1, 8 + 60 + 20, name=b"/SYM64/", width=8)
+    yield "no index", front + behind
+    yield "no member", front
+    yield "an index alone", front + member(b"/", bytes(4))
+    yield "a table of names first", front + member(b"//", b"a/\n") + behind
+    yield "a thin archive", b"!<thin>\n" + behind
+    yield "no count", front + member(b"/", b"\0\0\0") + behind
+    yield "an empty index", front + member(b"/", b"") + behind
+    yield "an offset between members", indexed(1, at + 2)
+    yield "the offset of the index", indexed(1, 8)
+    yield "an offset of 0", indexed(1, 0)
+    yield "an offset past the end", indexed(1, 2 ** 32 - 1)
+    yield "the largest count", indexed(2 ** 32 - 1, at)
+    yield "the largest count of 64 bits", indexed(2 ** 64 - 1, 8 + 60 + 20, name=b"/SYM64/", width=8)
+    yield "one entry too many", indexed(2, at)
+    yield "no name", indexed(1, at - 4, names=b"")
+    yield "a name without its end", indexed(1, at, names=b"f1!")
+    yield "an empty name", indexed(1, at, names=b"\0..")
+    yield "bytes after the names", indexed(1, at + 4, names=b"f1\0more")
+    yield "a name twice", indexed(2, at + 8, at + 8, names=b"f1\0f1\0\0")
+    yield "a member that lacks its entry", archive([(b"m.o", relocatable([Symbol(b"f3")]))], [(b"f1", 0)])
+    yield "a member that is its own reason", archive([(b"m.o", relocatable([Symbol(b"f1")]))], [(b"f1", 0), (b"f1", 0)])
+    yield "a member of zeros", archive([(b"m.o", bytes(100))], [(b"f1", 0)])
+    yield "a member of no bytes", archive([(b"m.o", b"")], [(b"f1", 0)])
+    yield "a member for another machine", archive([(b"m.o", data[:18] + b"\3" + data[19:])], [(b"f1", 0)])
+    yield "a shared library as a member", archive([(b"m.o", data[:16] + b"\3" + data[17:])], [(b"f1", 0)])
+    yield "a name of 5,000 bytes", archive([(b"m.o", relocatable([Symbol(b"n" * 5000, TEXT), Symbol(b"f1", TEXT)]))], [(b"n" * 5000, 0), (b"f1", 0)])
+    yield "intermediate code alone", archive([(b"m.o", relocatable([Symbol(b"__gnu_lto_slim", COMMON, 1, OBJECT, 1, 1)]))], [(b"f1", 0)])
+    yield "a long name of a member", front + member(b"/", struct_index(b"f1", 8 + 60 + 12 + 60 + 22)) + member(b"//", b"a_name_of_many_bytes/\n") + member(b"/0", data)
+    yield "a long name past its table", front + member(b"/", struct_index(b"f1", 8 + 60 + 12 + 60 + 22)) + member(b"//", b"a_name_of_many_bytes/\n") + member(b"/99", data)
+    yield "a name at the start of the data", front + member(b"/", struct_index(b"f1", 8 + 60 + 12)) + made_archives.bsd_member(b"a name.o", data, 4)
+
+
+def struct_index(name, place):
+    """An index of one entry, of 12 bytes."""
+    return b"\0\0\0\1" + place.to_bytes(4, "big") + name + bytes(4 - len(name))
+
+
+def main():
+    reader = option_reader(__doc__)
+    reader.add_argument("--quick", action="store_true")
+    reader.add_argument("--jobs", type=int)
+    reader.add_argument("--copies", type=int)
+    given = reader.parse_args()
+    count = given.jobs if given.jobs is not None else 150 if given.quick else 1500
+    copies = given.copies if given.copies is not None else 150 if given.quick else 3000
+    program, rng = program_of(given), random.Random(2040)
+    with tempfile.TemporaryDirectory() as folder:
+        jobs = Jobs(program, folder)
+        jobs.three_kinds()
+        jobs.malformed()
+        jobs.limits()
+        jobs.random_jobs(rng, count)
+        jobs.changed_copies(rng, copies)
+        jobs.budgets(rng, 5 if given.quick else 50)
+        os.chdir("/")
+    return jobs.end()
+
+
+if __name__ == "__main__":
+    sys.exit(main())

@@ -1,0 +1,193 @@
+#!/usr/bin/env python3
+"""Compares what `elfsee resolve` prints with what the linker `ld` does with the same words.
+
+    tests/machine/resolve_against_ld.py [--program PROGRAM] [--quick] [--jobs N]
+
+Links are those of `gcc -###` on this machine, of a C and a C++ program, static, position-independent and against shared
+libraries, with a static and a shared OpenSSL, with libraries in a wrong order or missing, and with a whole archive, as far as
+their libraries are installed; and generated jobs of objects, archives, whole archives and groups, every other one with shared libraries
+(tests/common/made_links.py), 1,000 of them or with --quick 100. Compared are the members of archives that ld takes, in their order, each with the file and
+the symbol for which it is taken, from the map of the link; which file defines each symbol, from its cross references; and which
+symbols are undefined or defined more than once, from its messages. A symbol that no relocation uses is undefined for elfsee
+alone: those are counted. So are links that ld gives up, without a map, since a shared library refers to a hidden symbol.
+
+It needs Python 3 and from Debian gcc, g++ and binutils. Without PROGRAM the repository's own is tested, and built first if it
+is not built. The last line is `N passed, N failed`, and the status is 0 only if none failed and one passed.
+"""
+
+import os
+import random
+import re
+import shlex
+import shutil
+import subprocess
+import sys
+import tempfile
+
+sys.dont_write_bytecode = True
+sys.path.insert(0, os.path.join(os.path.dirname(os.path.realpath(__file__)), "..", "common"))
+import made_links  # pylint: disable=wrong-import-position
+from testing import Counts, option_reader, program_of  # pylint: disable=wrong-import-position
+
+PLAIN = {"PATH": "/usr/bin:/bin", "LC_ALL": "C"}
+SOURCES = {
+    "hello.c": '#include <stdio.h>\nint main(void) { puts("hello"); return 0; }\n',
+    "regex.cc": '#include <regex>\n#include <thread>\nint main() { std::thread t([] { std::regex r("a+"); '
+                'std::regex_match("aa", r); }); t.join(); }\n',
+    "ssl.c": "#include <openssl/ssl.h>\nint main(void) { return !SSL_CTX_new(TLS_client_method()); }\n",
+}
+LINKS = {
+    "C, static": ["gcc", "hello.o", "-static"], "C": ["gcc", "hello.o"], "C, static and position-independent": ["gcc", "hello.o", "-static-pie"],
+    "a library that is a script": ["gcc", "hello.o", "-static", "-lm"], "C++, static": ["g++", "regex.o", "-static"], "C++": ["g++", "regex.o"],
+    "a shared library": ["gcc", "-shared", "hello.o", "-lz"], "exported symbols": ["gcc", "-rdynamic", "hello.o"],
+    "OpenSSL, static": ["gcc", "ssl.o", "-static", "-lssl", "-lcrypto"], "OpenSSL": ["gcc", "ssl.o", "-lssl", "-lcrypto", "-lm"],
+    "OpenSSL in the wrong order": ["gcc", "ssl.o", "-static", "-lcrypto", "-lssl"], "OpenSSL without its library": ["gcc", "ssl.o"],
+    "a whole archive": ["gcc", "hello.o", "-static", "-Wl,--whole-archive", "-lz", "-Wl,--no-whole-archive"],
+}
+INCLUDED = "Archive member included to satisfy reference by file (symbol)"
+NEEDED = "As-needed library included to satisfy reference by file (symbol)"
+
+
+class Answer:
+    """What elfsee says of a link."""
+
+    def __init__(self, lines):
+        self.files, self.reasons, self.keys, self.further = [], [], {}, []
+        for line in lines:
+            letter, fields = line[:1], line[2:].split(None, 4)
+            if letter == "I":
+                _, kind, archive, _, path = fields
+                self.files.append((kind, f"{self.files[int(archive)][1]}({path})" if archive != "-" else path))
+            elif letter == "W":
+                taken, needer, symbol = line[2:].split(None, 2)
+                by = "" if needer == "-" else self.files[int(needer)][1] + " "
+                self.reasons.append((self.files[int(taken)][1], f"{by}({symbol})"))
+            elif letter == "G":
+                state, definer, _, symbol = line[2:].split(None, 3)
+                self.keys[symbol] = (state, None if definer == "-" else self.files[int(definer)][1])
+            elif letter == "M":
+                self.further.append(line[2:].split(None, 1)[1])
+
+
+class Linked:
+    """What ld says of a link: its map and its messages."""
+
+    def __init__(self, words):
+        with tempfile.TemporaryDirectory() as folder:
+            out, told = os.path.join(folder, "out"), os.path.join(folder, "map")
+            done = subprocess.run(["ld", *words, "-o", out, "-Map", told, "--cref", "--noinhibit-exec", "--no-demangle"],
+                                  capture_output=True, text=True, errors="surrogateescape", check=False, env=PLAIN)
+            self.map = ""
+            if os.path.exists(told):
+                with open(told, errors="surrogateescape") as file:
+                    self.map = file.read()
+        # What a shared library lacks has no line.
+        told = [line for line in done.stderr.splitlines() if ".so: undefined reference" not in line]
+        # Then there is no map.
+        self.is_given_up = not self.map and "is referenced by DSO" in done.stderr
+        self.undefined = set(re.findall(r"undefined reference to `(.*?)'", "\n".join(told)))
+        self.multiple = sorted(re.findall(r"multiple definition of `(.*?)'", done.stderr))
+
+    def included(self, head):
+        """The files that were taken, each with what for."""
+        found = re.search(re.escape(head) + r"\n\n(.*?)\n\n(?=\S)", self.map, re.S)
+        taken, file = [], None
+        for line in found[1].split("\n") if found else ():
+            words = line.split(None, 1)
+            if line[:1] not in ("", " "):
+                file, words = words[0], words[1:]
+            if file and words:
+                taken.append((file, line.split(None, 1)[1].strip() if line[:1] != " " else line.strip()))
+        return [pair for pair in taken if "--whole-archive" not in pair[1]]
+
+    def references(self):
+        """The files of each symbol, the one that defines it first."""
+        place, table, symbol = self.map.find("\nCross Reference Table\n"), {}, None
+        for line in self.map[place:].splitlines()[4:] if place >= 0 else ():
+            words = line.split(None, 1)
+            if line[:1] not in ("", " "):
+                symbol = words[0]
+                table[symbol], words = [], words[1:]
+            if symbol and words:
+                table[symbol].append(line.split(None, 1)[1].strip() if line[:1] != " " else line.strip())
+        return table
+
+
+class Links(Counts):
+    """Links by elfsee and by ld."""
+
+    def __init__(self, program):
+        super().__init__()
+        self.program, self.symbols, self.members, self.unused, self.given_up = program, 0, 0, 0, 0
+
+    def compare(self, what, words, is_first):
+        """`is_first` says that of the files that ld names for a symbol the first is the one that counts."""
+        done = subprocess.run([self.program, "resolve", "--", *words], capture_output=True, text=True, errors="surrogateescape",
+                              check=False, timeout=120, env=PLAIN)
+        answer, linked = Answer(done.stdout.splitlines()), Linked(words)
+        if linked.is_given_up:
+            self.given_up += 1
+            return
+        self.quiet_case(what, "" if done.returncode in (0, 1) and linked.map else f"status {done.returncode}: {done.stderr}")
+        self.check(f"{what}: members", linked.included(INCLUDED), answer.reasons)
+        self.members += len(answer.reasons)
+        table, wrong = linked.references(), []
+        for symbol, (_, definer) in answer.keys.items():
+            if definer is not None and symbol in table:
+                self.symbols += 1
+                if definer not in (table[symbol][:1] if is_first else table[symbol]):
+                    wrong.append((symbol, table[symbol], definer))
+        self.check(f"{what}: definers", [], wrong)
+        undefined = {symbol for symbol, (state, _) in answer.keys.items() if state in ("undef", "order")}
+        self.check(f"{what}: undefined", set(), linked.undefined - undefined)
+        self.unused += len(undefined - linked.undefined)
+        self.check(f"{what}: multiple", linked.multiple, sorted(answer.further))
+
+
+def words_of(command):
+    """The words of the linker that a compiler calls, without its plugin and its output."""
+    told = subprocess.run([command[0], "-###", *command[1:]], stderr=subprocess.PIPE, text=True, check=False, env=PLAIN).stderr
+    lines = [line for line in told.splitlines() if "collect2" in line and line.startswith(" ")]
+    words, kept = shlex.split(lines[-1])[1:] if lines else [], []
+    while words:
+        word = words.pop(0)
+        if word in ("-plugin", "-o"):
+            words.pop(0)
+        elif not word.startswith("-plugin-opt"):
+            kept.append(word)
+    return kept
+
+
+def main():
+    reader = option_reader(__doc__)
+    reader.add_argument("--quick", action="store_true")
+    reader.add_argument("--jobs", type=int)
+    given = reader.parse_args()
+    count = given.jobs if given.jobs is not None else 100 if given.quick else 1000
+    links, rng = Links(program_of(given)), random.Random(2240)
+    if not shutil.which("gcc") or not shutil.which("ld"):
+        print("gcc and ld are not installed, so nothing is compared")
+        return links.end(True)
+    with tempfile.TemporaryDirectory() as folder:
+        os.chdir(folder)
+        for name, text in SOURCES.items():
+            with open(name, "w") as file:
+                file.write(text)
+            subprocess.run(["g++" if name.endswith("cc") else "gcc", "-c", name], stderr=subprocess.DEVNULL, check=False)
+        for what, command in LINKS.items():
+            if all(os.path.exists(word) for word in command if word.endswith(".o")):
+                links.compare(what, words_of(command), True)
+        for number in range(count):
+            files, words = made_links.random_job(rng, made_links.PLAIN_NAMES, 1, 3 * (number % 2))
+            for name, content in files.items():
+                with open(name, "wb") as file:
+                    file.write(content)
+            links.compare(f"job {number}: {b' '.join(words).decode()}", [os.fsdecode(word) for word in words], False)
+        os.chdir("/")
+    print(f"{links.members} members and {links.symbols} symbols are the same; {links.unused} undefined symbols are used by "
+          f"no relocation; {links.given_up} links that ld gives up are not compared")
+    return links.end()
+
+
+if __name__ == "__main__":
+    sys.exit(main())
