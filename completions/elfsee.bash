@@ -13,6 +13,7 @@ _elfsee_options() {
     bytes) set -- --headers --max-read --segment ;;
     image) set -- --headers --max-read --layout --max-write --leave --missing ;;
     needs | deps) set -- --headers --max-read --max-tries --library-path --default --root --cache --no-cache --symbols --unused --problems --json --table --files0-from ;;
+    resolve) set -- --headers --max-read --keys --key-bytes --index --rows --problems --json ;;
     traits | hardening) set -- --headers --max-read --require --json --table --files0-from ;;
     *) set -- ;;
     esac
@@ -65,7 +66,7 @@ _elfsee() {
         else
             case $word in
             --) ended=1 before= ;;
-            --headers | --max-headers | --names | --max-name-len | --max-read | --max-write | --max-tries | --only | -o | --name | -n | --name-list | --at | --address | --layout | --segment | --require | --library-path | --default | --root | --sysroot | --cache | --files0-from) skip=1 ;;
+            --headers | --max-headers | --names | --max-name-len | --max-read | --max-write | --max-tries | --keys | --key-bytes | --index | --rows | --only | -o | --name | -n | --name-list | --at | --address | --layout | --segment | --require | --library-path | --default | --root | --sysroot | --cache | --files0-from) skip=1 ;;
             -*) ;;
             *) if [[ $command ]]; then files=$((files + 1)); else command=$word; fi ;;
             esac
@@ -78,7 +79,7 @@ _elfsee() {
             mapfile -t COMPREPLY < <(compgen -W "$parts" -- "$current")
             return
             ;;
-        --headers | --max-headers | --names | --max-name-len | --max-read | --max-write | --max-tries | --name | -n | --segment | --require | --library-path | --default) return ;;
+        --headers | --max-headers | --names | --max-name-len | --max-read | --max-write | --max-tries | --keys | --key-bytes | --index | --rows | --name | -n | --segment | --require | --library-path | --default) return ;;
         --name-list | --layout | --root | --sysroot | --cache | --files0-from)
             _elfsee_files
             return
@@ -97,10 +98,10 @@ _elfsee() {
         esac
     fi
     case $command in
-    '') mapfile -t COMPREPLY < <(compgen -W 'show sample find apply bytes image check list traits needs archive explain version help' -- "$current") ;;
-    help) [[ $files != 0 ]] || mapfile -t COMPREPLY < <(compgen -W 'show sample find apply bytes image check list traits needs archive explain version' -- "$current") ;;
+    '') mapfile -t COMPREPLY < <(compgen -W 'show sample find apply bytes image check list traits needs resolve archive explain version help' -- "$current") ;;
+    help) [[ $files != 0 ]] || mapfile -t COMPREPLY < <(compgen -W 'show sample find apply bytes image check list traits needs resolve archive explain version' -- "$current") ;;
     show | find | bytes | image | archive) [[ $files != 0 ]] || _elfsee_files ;;
-    check | list | traits | hardening | needs | deps) _elfsee_files ;;
+    check | list | traits | hardening | needs | deps | resolve) _elfsee_files ;;
     apply)
         case $files in
         0) _elfsee_files ;;
