@@ -37,8 +37,8 @@ some_clean [] line items none = refl
 some_clean (byte ∷ text) line items none = none
 
 -- if items begin with lines of at least one byte, the line is kept
-stands : (text line : List ℕ) (items : List ListingItem) (byte : ℕ) (bytes : List ℕ) → text ≡ byte ∷ bytes → before_some text (Line line ∷ items) ≡ Line line ∷ items
-stands text line items byte bytes is = rw is refl
+is_at : (text line : List ℕ) (items : List ListingItem) (byte : ℕ) (bytes : List ℕ) → text ≡ byte ∷ bytes → before_some text (Line line ∷ items) ≡ Line line ∷ items
+is_at text line items byte bytes is = rw is refl
 
 -- a line that is written alone
 pub line_writes : (began mid new : OutState) (line : List ℕ) (items : List ListingItem) (result : Result Bool RunFault) → SinkTakes began mid line → WroteSome mid new result items → WroteSome began new result (Line line ∷ items)
@@ -71,7 +71,7 @@ module _ (began mid old new : OutState) (line : List ℕ) (held : DeferredLine) 
           record {
             front = Line line ∷ q.front;
             rest = q.rest;
-            split = stands (lines_of items) line items byte (bytes ++ lines_of q.rest) all ∙ ap (λ rest. Line line ∷ rest) q.split;
+            split = is_at (lines_of items) line items byte (bytes ++ lines_of q.rest) all ∙ ap (λ rest. Line line ∷ rest) q.split;
             takes = rw is (line_ends began mid old line held p new (byte ∷ bytes) (rw is at q.takes) ends);
             no_fault = q.no_fault;
           }

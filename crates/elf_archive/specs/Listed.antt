@@ -145,7 +145,7 @@ StandsBehind size old new (Err stop) = Unit {0}
 pub record StepsListing (alone : Bool) (headers now : ℕ) (style : ListingStyle) (parts : ℕ) (p q : MemberWalkState) (a b : CountedState) (old new : OutState) (result : Result (Option Bool) RunFault) : Type 0 where
   pub slots : now ≡ headers
   pub grows : OutGrows old new
-  pub stands : StandsBehind a.seen.size p q result
+  pub is_at : StandsBehind a.seen.size p q result
   pub within : StepsWithin headers style p q a b new result
   pub cost : (file : List ℕ) → a.seen.file ≡ Some file → ReadsAtMostIn a b new result (next_cost file headers style parts p (next_member file style.cap p))
   pub text : (file : List ℕ) → a.seen.file ≡ Some file → WroteSome old new result (next_items alone file headers style parts (next_member file style.cap p))

@@ -75,7 +75,7 @@ pub record PassesMember (size : ℕ) (old new : MemberWalkState) (given : Given)
   pub index : given.index ≡ old.index
   pub begins : old.at + 60 ≤ given.extent.at
   pub lies : IsInBounds size (extent_of given.extent)
-  pub stands : IsMemberWalkInBounds size new
+  pub is_at : IsMemberWalkInBounds size new
   pub counts : new.index ≡ old.index + 1
   pub ends : given.extent.at + given.extent.size ≤ new.at
 

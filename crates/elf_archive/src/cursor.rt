@@ -66,7 +66,7 @@ impl MemberCursor {
         name: &mut NameBuf,
     ) -> Result<Option<Member>, Fault>
         requires size { src.old.seen.size < 2 ^ 63 }
-        requires stands { IsMemberWalkInBounds src.old.seen.size self.old }
+        requires is_at { IsMemberWalkInBounds src.old.seen.size self.old }
         ensures asks { AsksAtMost src.old src.new result
             (step_cost src.old.seen.size cap.bytes self.old) }
         ensures cost { (file : List ℕ) → src.old.seen.file ≡ Some file →

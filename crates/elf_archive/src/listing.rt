@@ -171,7 +171,7 @@ fn list_next<S: Source, W: RowSink>(
 ) -> Result<Option<bool>, RunFault>
     requires whole { IsAll src.old }
     requires size { src.old.seen.size < 2 ^ 63 }
-    requires stands { IsMemberWalkInBounds src.old.seen.size cursor.old }
+    requires is_at { IsMemberWalkInBounds src.old.seen.size cursor.old }
     ensures { StepsListing choice.entry.alone store.old.slots store.new.slots
         (style_of choice.entry.style) choice.entry.parts.0 cursor.old cursor.new
         src.old src.new out.old out.new result }

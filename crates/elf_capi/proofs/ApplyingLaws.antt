@@ -35,32 +35,32 @@ unchanged name other xs byte old new before after same =
 
 module _ (file : List ℕ) (headers section : ℕ) (budget : Option ℕ) (layout : Layout) where
   -- WHAT IS IN THE MEMORY once a section is written to it
-  pub stands : (name other len entries n : ℕ) (out bytes : List ℕ) (spare : Option ℕ) (failed : Bool) (old new : OutState) (s1 t : CountedState) (result : Result Applied RunFault)
+  pub is_at : (name other len entries n : ℕ) (out bytes : List ℕ) (spare : Option ℕ) (failed : Bool) (old new : OutState) (s1 t : CountedState) (result : Result Applied RunFault)
       → old.taken ≡ Some (name ∷ []) → Some (other ∷ (take len out ++ spared spare)) ≡ new.taken → failed ≡ new.failed → (IsSome spare → len ≡ length out)
       → (IsTrue failed → IsSome spare) → honest bytes ≡ t.source → s1.most ≡ budget → s1.asked ≡ 0 → length file ≡ s1.seen.size → IfErr result (ApplySays s1 t new n)
       → IfErr result (BudgetTooSmall s1 (apply_cost_by_order file headers section layout)) → Applies old new result entries (applied file headers section layout)
       → AppliesFor file headers budget section layout out len (status_from result (is_some spare))
-  stands name other len entries n out bytes None failed old new s1 t (Ok done) before after fails full over is set first sized says wants wrote =
+  is_at name other len entries n out bytes None failed old new s1 t (Ok done) before after fails full over is set first sized says wants wrote =
       wrote.1 ∙ ap Ok (sym (took name other _ old.taken new.taken wrote.0 before after wrote.2.appends) ∙ append-nil (take len out))
-  stands name other len entries n out bytes None failed old new s1 t (Err (Refused refusal)) before after fails full over is set first sized says wants wrote = (
+  is_at name other len entries n out bytes None failed old new s1 t (Err (Refused refusal)) before after fails full over is set first sized says wants wrote = (
     wrote.0,
     λ budgeted.
         let over = wants budgeted in
         let inside = (says budgeted).0 in
         wanting budget s1 (apply_cost_by_order file headers section layout) (length file) over.most refusal set first over.is_set over.above (omega (arith, sized, inside)),
   )
-  stands name other len entries n out bytes None failed old new s1 t (Err (Source fault at)) before after fails full over is set first sized says wants wrote =
+  is_at name other len entries n out bytes None failed old new s1 t (Err (Source fault at)) before after fails full over is set first sized says wants wrote =
       absurd (never bytes t.hides s1.seen t.seen fault (t.is_seen ∙ ap (seen_by t.hides) (sym is)) says.0)
-  stands name other len entries n out bytes None failed old new s1 t (Err (Out fault)) before after fails full over is set first sized says wants wrote =
+  is_at name other len entries n out bytes None failed old new s1 t (Err (Out fault)) before after fails full over is set first sized says wants wrote =
       let no = over (fails ∙ says.failed) in cc
-  stands name other len entries n out bytes (Some byte) failed old new s1 t (Ok done) before after fails full over is set first sized says wants wrote =
+  is_at name other len entries n out bytes (Some byte) failed old new s1 t (Ok done) before after fails full over is set first sized says wants wrote =
       let front = took name other _ old.taken new.taken wrote.0 before after wrote.2.appends in
       (full refl, byte, [], wrote.1 ∙ ap Ok (more out wrote.0 [] wrote.0 byte len (full refl) front (sym (append-nil wrote.0))))
-  stands name other len entries n out bytes (Some byte) failed old new s1 t (Err (Refused refusal)) before after fails full over is set first sized says wants wrote =
+  is_at name other len entries n out bytes (Some byte) failed old new s1 t (Err (Refused refusal)) before after fails full over is set first sized says wants wrote =
       absurd (unchanged name other (take len out) byte old new before after wrote.1)
-  stands name other len entries n out bytes (Some byte) failed old new s1 t (Err (Source fault at)) before after fails full over is set first sized says wants wrote =
+  is_at name other len entries n out bytes (Some byte) failed old new s1 t (Err (Source fault at)) before after fails full over is set first sized says wants wrote =
       let front = took name other _ old.taken new.taken wrote.front before after wrote.takes.appends in
       (full refl, byte, wrote.rest, whole (applied file headers section layout) out wrote.rest byte (more out wrote.front wrote.rest _ byte len (full refl) front wrote.split))
-  stands name other len entries n out bytes (Some byte) failed old new s1 t (Err (Out fault)) before after fails full over is set first sized says wants wrote =
+  is_at name other len entries n out bytes (Some byte) failed old new s1 t (Err (Out fault)) before after fails full over is set first sized says wants wrote =
       let front = took name other _ old.taken new.taken wrote.front before after wrote.takes.appends in
       (full refl, byte, wrote.rest, whole (applied file headers section layout) out wrote.rest byte (more out wrote.front wrote.rest _ byte len (full refl) front wrote.split))

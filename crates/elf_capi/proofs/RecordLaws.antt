@@ -106,8 +106,8 @@ goes_on file old new stand (Some s) each few fits its leads all is =
 pub left_is : (file : List ℕ) (records : VersionRecordPosition) (table : TableRange) (standing : Option RecordPosition) (c : VersionCursorState) → table.at ≡ records.at → table.count ≡ bytes_within (length file) records
     → option_map record_position_of standing ≡ standing_in table.count records → c.held.table ≡ table → c.standing ≡ standing → c.left ≡ records.left
     → versions_left file c ≡ records_left file records
-left_is file records table standing c at count stands its its_standing left =
-    rw (its, its_standing, left, at, stands) (ap (λ n. visited_from file records.at n (standing_in n records) records.left) count)
+left_is file records table standing c at count is_at its its_standing left =
+    rw (its, its_standing, left, at, is_at) (ap (λ n. visited_from file records.at n (standing_in n records) records.left) count)
 
 -- a visited record has its bytes in the table
 no_record : (met : VisitedRecord) (versions other : Versions) → other.met ≡ [] → other ≡ with_visited met versions → ⊥

@@ -37,9 +37,9 @@ all_left file kind at names passes first =
           let ends : sh_offset file at + size ≤ length file = grind (arith, nat_tests) in
           let within : bytes_within (length file) records ≡ size = omega (arith, ends) in
           let stood : standing_in size records ≡ Some (stand_as kind records) = stands_as size kind records (rw some refl) (omega arith) (λ need. absurd (first need)) in
-          let stands : first_position kind at size ≡ Some (stand_as kind records) = rw some refl in
+          let is_at : first_position kind at size ≡ Some (stand_as kind records) = rw some refl in
           ap (λ n. visited_from file (sh_offset file at) n (standing_in n records) records.left) within
-          ∙ ap (λ o. visited_from file (sh_offset file at) size o records.left) (stood ∙ sym stands)
+          ∙ ap (λ o. visited_from file (sh_offset file at) size o records.left) (stood ∙ sym is_at)
     ]
 
 -- they are the section's

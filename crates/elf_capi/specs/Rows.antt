@@ -41,6 +41,6 @@ pub record StepsRows (size entry : ℕ) (old new : RowPosition) (room count : �
   pub stepped : new ≡ stepped old count
 
 -- THE ROWS THAT A STEP READS: each is the entry at its place in the file
-pub record ReadsNext {Row : Type 0} (entry : ℕ) (stands : List ℕ → ℕ → Row → Type 0) (file : List ℕ) (old new : RowPosition) (room : ℕ) (out : List Row) (count : ℕ) : Type 0 where
+pub record ReadsNext {Row : Type 0} (entry : ℕ) (is_at : List ℕ → ℕ → Row → Type 0) (file : List ℕ) (old new : RowPosition) (room : ℕ) (out : List Row) (count : ℕ) : Type 0 where
   pub steps : StepsRows (length file) entry old new room count
-  pub read : (k : ℕ) (none : Row) → k < count → stands file (next_at old entry k) (slice_index_or out k none)
+  pub read : (k : ℕ) (none : Row) → k < count → is_at file (next_at old entry k) (slice_index_or out k none)

@@ -61,7 +61,7 @@ pub record StepsBudgeted (size entry : ℕ) (limits : CallerLimits) (asked later
   pub tells : end ≡ step_end size entry new (room - count)
 
 -- THE ROWS THAT A STEP READS WITHIN A BUDGET: each is the entry at its place in the file
-pub record ReadsBudgeted {Row : Type 0} (entry : ℕ) (stands : List ℕ → ℕ → Row → Type 0) (file : List ℕ) (limits : CallerLimits) (asked later : ℕ) (old new : RowPosition) (room : ℕ) (out : List Row) (count : ℕ) (end : CallEnd) : Type 0 where
+pub record ReadsBudgeted {Row : Type 0} (entry : ℕ) (is_at : List ℕ → ℕ → Row → Type 0) (file : List ℕ) (limits : CallerLimits) (asked later : ℕ) (old new : RowPosition) (room : ℕ) (out : List Row) (count : ℕ) (end : CallEnd) : Type 0 where
   pub steps : StepsBudgeted (length file) entry limits asked later old new room count end
   pub budget : IfSome (budget_of limits) (λ bytes. asked ≤ bytes → later ≤ bytes)
-  pub read : (k : ℕ) (none : Row) → k < count → stands file (next_at old entry k) (slice_index_or out k none)
+  pub read : (k : ℕ) (none : Row) → k < count → is_at file (next_at old entry k) (slice_index_or out k none)

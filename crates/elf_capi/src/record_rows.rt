@@ -13,7 +13,7 @@ impl TableRow for Sym {
 
     ghost BYTES = { 24 };
 
-    ghost stands = { IsSym };
+    ghost is_at = { IsSym };
 
     ghost some = { Prim.search rules };
 
@@ -27,7 +27,7 @@ impl TableRow for Rela {
 
     ghost BYTES = { 24 };
 
-    ghost stands = { IsRela };
+    ghost is_at = { IsRela };
 
     ghost some = { Prim.search rules };
 
@@ -41,7 +41,7 @@ impl TableRow for Dyn {
 
     ghost BYTES = { 16 };
 
-    ghost stands = { IsDyn };
+    ghost is_at = { IsDyn };
 
     ghost some = { Prim.search rules };
 

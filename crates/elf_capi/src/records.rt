@@ -92,7 +92,7 @@ impl VersionRecordPosition {
     fn standing(&self, file: &[u8], table: Table) -> Option<RecordPosition>
         requires at { table.at ≡ self.now.at }
         requires count { table.count ≡ bytes_within (length file.now) self.now }
-        ensures stands { option_map record_position_of result ≡ standing_in table.count self.now }
+        ensures is_at { option_map record_position_of result ≡ standing_in table.count self.now }
         ensures knows { KnowsAhead file.now table.at result }
         ensures fits { IfSome result (IsPositionInTable table.count 28) }
         ensures owned { IfSome result (λ s. s.kind ≡ Need → s.owner + 16 ≤ table.count) }

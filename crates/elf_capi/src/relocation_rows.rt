@@ -21,7 +21,7 @@ impl TableRow for ShortEntry {
 
     ghost BYTES = { 16 };
 
-    ghost stands = { IsShortEntry };
+    ghost is_at = { IsShortEntry };
 
     ghost some = { Prim.search rules };
 
@@ -39,7 +39,7 @@ impl TableRow for u64 {
 
     ghost BYTES = { 8 };
 
-    ghost stands = { IsRelocationWord };
+    ghost is_at = { IsRelocationWord };
 
     ghost some = { Prim.search rules };
 

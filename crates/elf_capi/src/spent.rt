@@ -30,7 +30,7 @@ pub fn next_within<R: TableRow>(
     ensures budget { IfSome (budget_of limits.now)
         (λ bytes. asked.old ≤ bytes → asked.new ≤ bytes) }
     ensures read { (k : ℕ) (none : R) → k < result →
-        R.stands file.now (next_at rows.old R.BYTES k) (slice_index_or out.new k none) }
+        R.is_at file.now (next_at rows.old R.BYTES k) (slice_index_or out.new k none) }
 {
     let room = room_left(limits, *asked, R::BYTES, out.len());
     let count = next_rows(file, rows, &mut out[..room]);

@@ -13,12 +13,12 @@ pub trait TableRow: Copy {
     ghost BYTES: { ℕ };
 
     /// The entry at an offset of a file.
-    ghost stands: { List ℕ → ℕ → Self → Type 0 };
+    ghost is_at: { List ℕ → ℕ → Self → Type 0 };
 
     /// Returns the entry at an offset of a file.
     fn read(file: &[u8], at: usize) -> Self
         requires { at + BYTES ≤ length file.now }
-        ensures { stands file.now at result };
+        ensures { is_at file.now at result };
 
     /// An entry has bytes.
     ghost some: { 0 < BYTES };
@@ -27,7 +27,7 @@ pub trait TableRow: Copy {
 /// Reads the next rows to the start of `out`, as many as there are and as fit, steps over them, and
 /// returns how many.
 pub fn next_rows<R: TableRow>(file: &[u8], rows: &mut RowPosition, out: &mut [R]) -> usize
-    ensures { ReadsNext R.BYTES R.stands file.now rows.old rows.new (length out.old) out.new
+    ensures { ReadsNext R.BYTES R.is_at file.now rows.old rows.new (length out.old) out.new
         result }
 {
     let count = rows.next(file.len(), R::BYTES, out.len());
@@ -44,7 +44,7 @@ fn read_rows<R: TableRow>(file: &[u8], first: usize, count: usize, out: &mut [R]
     requires within { first + R.BYTES * count ≤ length file.now }
     requires room { count ≤ length out.old }
     ensures { (k : ℕ) (none : R) → k < count →
-        R.stands file.now (first + R.BYTES * k) (slice_index_or out.new k none) }
+        R.is_at file.now (first + R.BYTES * k) (slice_index_or out.new k none) }
 {
     let mut done = 0;
     while done < count {

@@ -21,7 +21,7 @@ impl TableRow for Versym {
 
     ghost BYTES = { 2 };
 
-    ghost stands = { IsVersionWord };
+    ghost is_at = { IsVersionWord };
 
     ghost some = { Prim.search rules };
 

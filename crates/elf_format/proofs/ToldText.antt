@@ -73,10 +73,10 @@ told-plain [] = All-nil IsPlain
 told-plain (byte ∷ bytes) = All-append IsPlain (reported_byte byte) (reported_text bytes) (byte-plain byte) (told-plain bytes)
 
 -- a plain byte that is no backslash is unchanged
-byte-stands : (byte : ℕ) → IsPlain byte → byte ≢ 0x5c → reported_byte byte ≡ byte ∷ []
+byte-unchanged : (byte : ℕ) → IsPlain byte → byte ≢ 0x5c → reported_byte byte ≡ byte ∷ []
 unfolding reported_byte name_byte_text
-byte-stands byte (inl is) other = rw is refl
-byte-stands byte (inr prints) other =
+byte-unchanged byte (inl is) other = rw is refl
+byte-unchanged byte (inr prints) other =
     let a : (byte == 10) ≡ false = grind (arith, nat_tests) in
     let b : (byte == 0x5c) ≡ false = grind (arith, nat_tests) in
     let c : nat_le 0x20 byte ≡ true = grind (arith, nat_tests) in
@@ -84,11 +84,11 @@ byte-stands byte (inr prints) other =
     rw (a, b, c, d) refl
 
 -- a plain text without a backslash is unchanged
-pub told-stands : (text : List ℕ) → All IsPlain text → All (λ byte. byte ≢ 0x5c) text → reported_text text ≡ text
+pub told-unchanged : (text : List ℕ) → All IsPlain text → All (λ byte. byte ≢ 0x5c) text → reported_text text ≡ text
 unfolding reported_text
-told-stands [] plain others = refl
-told-stands (byte ∷ bytes) plain others =
+told-unchanged [] plain others = refl
+told-unchanged (byte ∷ bytes) plain others =
     rw (
-      byte-stands byte (All-head IsPlain byte bytes plain) (All-head (λ b. b ≢ 0x5c) byte bytes others),
-      told-stands bytes (All-tail IsPlain byte bytes plain) (All-tail (λ b. b ≢ 0x5c) byte bytes others),
+      byte-unchanged byte (All-head IsPlain byte bytes plain) (All-head (λ b. b ≢ 0x5c) byte bytes others),
+      told-unchanged bytes (All-tail IsPlain byte bytes plain) (All-tail (λ b. b ≢ 0x5c) byte bytes others),
     ) refl

@@ -17,7 +17,7 @@ use elf_source::{Out, OutFault, Sink};
 pub fn show_escaped_text<W: Sink>(text: &[u8], out: &mut Out<W>) -> Result<(), OutFault>
     ensures puts { OutPuts out.old out.new result (reported_text text.now) }
     ensures plain { All IsPlain (reported_text text.now) }
-    ensures stands { All IsPlain text.now → All (λ byte. byte ≢ 0x5c) text.now →
+    ensures unchanged { All IsPlain text.now → All (λ byte. byte ≢ 0x5c) text.now →
         reported_text text.now ≡ text.now }
 {
     let mut line = LineBuf::new();

@@ -184,5 +184,5 @@ module _ (file : List ℕ) (table : TableRange) (at n : ℕ) (found : DynamicTag
 -- an entry that is added is at an offset that is given in other terms
 pub takes_at : (file : List ℕ) (at there : ℕ) (entry : Dyn) (old new : DynamicTags) → there ≡ at → (IsDyn file there entry → TakesEntry file there old new) → IsDyn file at entry
     → TakesEntry file at old new
-takes_at file at there entry old new is gives stands =
-    subst (λ (x : ℕ). TakesEntry file x old new) is (gives (subst (λ (x : ℕ). IsDyn file x entry) (sym is) stands))
+takes_at file at there entry old new is gives is_at =
+    subst (λ (x : ℕ). TakesEntry file x old new) is (gives (subst (λ (x : ℕ). IsDyn file x entry) (sym is) is_at))

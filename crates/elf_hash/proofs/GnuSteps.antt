@@ -209,48 +209,48 @@ module _ (file : List ℕ) (table : Table) (hash : ℕ) (says : ℕ → Result B
     end_there = end_by index b t.is (ap (λ (w : ℕ). hash_bits_match w hash) (sym t.word_is) ∙ sym t.of_hash)
 
 -- what a walk finds there
-module _ (file : List ℕ) (table : Table) (hash : ℕ) (says : ℕ → Result Bool Refusal) (stands : ℕ → SymbolMatch → Type 0) (cost : ℕ) where
+module _ (file : List ℕ) (table : Table) (hash : ℕ) (says : ℕ → Result Bool Refusal) (is_at : ℕ → SymbolMatch → Type 0) (cost : ℕ) where
   abbrev looked : NoteScan
   looked = gnu_looked_up file table hash says
 
   pub meets_not_there : (read tried index place : ℕ) → Along file table hash says read tried index place → is_chained file table index ≡ false
-      → Meets stands 0 cost looked (walk_bytes 0 read tried cost) (Err (Refused (record { at = place; cause = HashIndex })))
+      → Meets is_at 0 cost looked (walk_bytes 0 read tried cost) (Err (Refused (record { at = place; cause = HashIndex })))
   unfolding gnu_walked_at
   meets_not_there read tried index place along isnt =
       let gives = ends_here file table hash says read tried index place NotThere along (end_not_there file table hash says index isnt) in
-      rw (along.place_is) (meets_refusal stands 0 cost looked _ tried read _ (rw (along.tried_is) gives) (omega arith))
+      rw (along.place_is) (meets_refusal is_at 0 cost looked _ tried read _ (rw (along.tried_is) gives) (omega arith))
 
   pub meets_unread : (read tried index place : ℕ) → Along file table hash says read tried index place → is_chained file table index ≡ true
-      → (fault : Fault) → IsOfRead fault → Meets stands 0 cost looked (walk_bytes 0 read tried cost + 4) (Err fault)
+      → (fault : Fault) → IsOfRead fault → Meets is_at 0 cost looked (walk_bytes 0 read tried cost + 4) (Err fault)
   meets_unread read tried index place along is fault of_read =
       let t : There file table hash says read tried index (word_of file table hash says index) (hash_bits_match (word_of file table hash says index) hash)
       = record { place = place; along = along; is = is; word_is = refl; of_hash = refl } in
       let least = least_there file table hash says read tried index _ _ t in
-      meets_fault stands 0 cost looked _ tried (suc read) fault of_read (omega (arith, least.0)) least.1 (omega arith)
+      meets_fault is_at 0 cost looked _ tried (suc read) fault of_read (omega (arith, least.0)) least.1 (omega arith)
 
   module _ (read tried index word : ℕ) (b : Bool) (t : There file table hash says read tried index word b) where
     gives : (end : WalkEnd) → ends file table hash says index ≡ Some end → looked ≡ gnu_walked_at file table.place hash read end
     gives end here = ends_here file table hash says read tried index t.place end t.along here
 
     -- a symbol that matches, or fails, was to be tried
-    wanted : (c : Bool) (result : Result (Option SymbolMatch) Fault) → (result ≡ Ok None → ⊥) → TriesDefinedSymbol c stands says index result → (c ≡ true) × TriesSymbol stands says index result
+    wanted : (c : Bool) (result : Result (Option SymbolMatch) Fault) → (result ≡ Ok None → ⊥) → TriesDefinedSymbol c is_at says index result → (c ≡ true) × TriesSymbol is_at says index result
     wanted true result other tries = (refl, tries)
     wanted false result other tries = absurd (other tries)
 
-    pub meets_untried_here : (fault : Fault) → TriesDefinedSymbol b stands says index (Err fault)
-        → Meets stands 0 cost looked (walk_bytes 0 read tried cost + 4 + cost_where b cost) (Err fault)
+    pub meets_untried_here : (fault : Fault) → TriesDefinedSymbol b is_at says index (Err fault)
+        → Meets is_at 0 cost looked (walk_bytes 0 read tried cost + 4 + cost_where b cost) (Err fault)
     unfolding gnu_walked_at
     meets_untried_here fault tries =
         let least = least_there file table hash says read tried index word b t in
         let w = wanted b (Err fault) (λ e. cc) tries in
         let end = end_there file table hash says read tried index word b t in
         let now = tried_now file table hash says read tried index word b t in
-        meets_untried stands 0 cost looked _ (tried + one_if b) (suc read) index says fault w.1
+        meets_untried is_at 0 cost looked _ (tried + one_if b) (suc read) index says fault w.1
         (λ refusal e. rw (now) (gives (Untried refusal) (end ∙ rw (w.0, e) refl)))
         least.0 least.1 (let bytes = bytes_where 0 read tried cost b in omega (arith, bytes))
 
-    pub meets_found : (answer : SymbolMatch) (all : ℕ) → TriesDefinedSymbol b stands says index (Ok (Some answer)) → all ≡ tried + one_if b
-        → Meets stands 0 cost looked (walk_bytes 0 read tried cost + 4 + cost_where b cost)
+    pub meets_found : (answer : SymbolMatch) (all : ℕ) → TriesDefinedSymbol b is_at says index (Ok (Some answer)) → all ≡ tried + one_if b
+        → Meets is_at 0 cost looked (walk_bytes 0 read tried cost + 4 + cost_where b cost)
         (Ok (record { found = Some (record { index = index; answer = answer }); tried = all; read = read + 1 }))
     unfolding gnu_walked_at
     meets_found answer all tries count =
@@ -259,24 +259,24 @@ module _ (file : List ℕ) (table : Table) (hash : ℕ) (says : ℕ → Result B
         let now = tried_now file table hash says read tried index word b t in
         let index_is = t.along.index_is in
         rw (count, add-one)
-        (meets_answer stands 0 cost looked _ (tried + one_if b) (suc read) _
+        (meets_answer is_at 0 cost looked _ (tried + one_if b) (suc read) _
         (rw (now, index_is) (gives Answers (end ∙ rw (w.0, w.1.0) refl)))
         (let bytes = bytes_where 0 read tried cost b in omega (arith, bytes)) w.1.1)
 
     -- a symbol that does not match, or is not tried
-    end_passed : TriesDefinedSymbol b stands says index (Ok None) → ends file table hash says index ≡ end_of_chain (word_of file table hash says index)
+    end_passed : TriesDefinedSymbol b is_at says index (Ok None) → ends file table hash says index ≡ end_of_chain (word_of file table hash says index)
     end_passed tries = by_case b tries (end_there file table hash says read tried index word b t)
       where
-        by_case : (c : Bool) → TriesDefinedSymbol c stands says index (Ok None)
+        by_case : (c : Bool) → TriesDefinedSymbol c is_at says index (Ok None)
             → ends file table hash says index
             ≡ (elim c [ true ↦ end_of_match (says index) (end_of_chain (word_of file table hash says index)) | false ↦ end_of_chain (word_of file table hash says index) ])
             → ends file table hash says index ≡ end_of_chain (word_of file table hash says index)
         by_case true tries e = e ∙ rw tries refl
         by_case false tries e = e
 
-    pub meets_last : (found : Option SymbolMatch) (all : ℕ) → TriesDefinedSymbol b stands says index (Ok found) → ((answer : SymbolMatch) → found ≡ Some answer → ⊥)
+    pub meets_last : (found : Option SymbolMatch) (all : ℕ) → TriesDefinedSymbol b is_at says index (Ok found) → ((answer : SymbolMatch) → found ≡ Some answer → ⊥)
         → is_chain_end word ≡ true → all ≡ tried + one_if b
-        → Meets stands 0 cost looked (walk_bytes 0 read tried cost + 4 + cost_where b cost)
+        → Meets is_at 0 cost looked (walk_bytes 0 read tried cost + 4 + cost_where b cost)
         (Ok (record { found = None; tried = all; read = read + 1 }))
     unfolding gnu_walked_at
     meets_last (Some answer) all tries other last count = absurd (other answer refl)
@@ -284,12 +284,12 @@ module _ (file : List ℕ) (table : Table) (hash : ℕ) (says : ℕ → Result B
         let now = tried_now file table hash says read tried index word b t in
         let odd : is_chain_end (word_of file table hash says index) ≡ true = rw (← t.word_is) last in
         rw (count, add-one)
-        (meets_answer stands 0 cost looked _ (tried + one_if b) (suc read) None
+        (meets_answer is_at 0 cost looked _ (tried + one_if b) (suc read) None
         (rw (now) (gives Last (end_passed tries ∙ rw odd refl)))
         (let bytes = bytes_where 0 read tried cost b in omega (arith, bytes)) tt)
 
     -- past a symbol that does not match and is not the last
-    pub along_next : (found : Option SymbolMatch) (all place : ℕ) → TriesDefinedSymbol b stands says index (Ok found) → ((answer : SymbolMatch) → found ≡ Some answer → ⊥)
+    pub along_next : (found : Option SymbolMatch) (all place : ℕ) → TriesDefinedSymbol b is_at says index (Ok found) → ((answer : SymbolMatch) → found ≡ Some answer → ⊥)
         → is_chain_end word ≡ false → all ≡ tried + one_if b → place ≡ gnu_chain_at file table.place index
         → Along file table hash says (read + 1) all (index + 1) place
     unfolding gnu_word_at

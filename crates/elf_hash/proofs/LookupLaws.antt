@@ -19,8 +19,8 @@ pub steps_ask : (steps length : ℕ) → walk_bytes 4 steps steps (symbol_bytes 
 steps_ask steps length = omega arith
 
 module _ (file : List ℕ) (at : ℕ) (wanted : List ℕ) (s : HashSection) (is : IsHashSection file at s) (entry : s.symbols.entry ≡ 24) where
-  abbrev pub stands : ℕ → SymbolMatch → Type 0
-  stands index answer = IsSym file (row_at s.symbols index) answer.symbol
+  abbrev pub is_at : ℕ → SymbolMatch → Type 0
+  is_at index answer = IsSym file (row_at s.symbols index) answer.symbol
 
   abbrev pub walk : NoteScan
   walk = sysv_walked file (section_table_of file at) (sysv_hash wanted) (has_name file (linked_at file at) wanted)
@@ -31,7 +31,7 @@ module _ (file : List ℕ) (at : ℕ) (wanted : List ℕ) (s : HashSection) (is 
   looked : looked_up file at wanted ≡ parse_lookup file at walk
   looked = sym (sysv_walk_is_lookup file at wanted)
 
-  finds_found : (found : Option ChainMatch) (tried read : ℕ) → GivesWalked stands walk (Ok (record { found = found; tried = tried; read = read }))
+  finds_found : (found : Option ChainMatch) (tried read : ℕ) → GivesWalked is_at walk (Ok (record { found = found; tried = tried; read = read }))
       → Finds file (looked_up file at wanted) (Ok (lookup_in s.link (record { found = found; tried = tried; read = read })))
   finds_found None tried read gives = looked ∙ ap (parse_lookup file at) gives.0
   finds_found (Some found) tried read gives = (
@@ -40,21 +40,21 @@ module _ (file : List ℕ) (at : ℕ) (wanted : List ℕ) (s : HashSection) (is 
     subst (λ (p : ℕ). IsSym file p found.answer.symbol) (row_is file s.symbols s.names wanted _ named found.index) gives.1,
   )
 
-  fails : (fault : Fault) → GivesWalked stands walk (Err fault) → Finds file (looked_up file at wanted) (Err fault)
+  fails : (fault : Fault) → GivesWalked is_at walk (Err fault) → Finds file (looked_up file at wanted) (Err fault)
   fails (Refused refusal) gives = λ other. ap (λ (l : Looked). l.answer) looked ∙ ap (lookup_answer file at) (gives other)
   fails (Source fault offset) gives = tt
 
   charges : {old new : CountedState} (result : Result ChainResult Fault)
-      → WalksChain stands 4 (symbol_bytes (length wanted)) walk old new result
+      → WalksChain is_at 4 (symbol_bytes (length wanted)) walk old new result
       → CallReads old new (fault_of_result result) (4 + (looked_up file at wanted).compared * step_bytes (length wanted))
   charges result walks =
       let bounded = (sysv_walk_is_bounded file (section_table_of file at) (sysv_hash wanted) (has_name file (linked_at file at) wanted)).0 in
       rw (looked, ← steps_ask walk.tried (length wanted)) (rw bounded at walks.costs)
 
-  pub looks_answered : {old new : CountedState} (w : ChainResult) → WalksChain stands 4 (symbol_bytes (length wanted)) walk old new (Ok w)
+  pub looks_answered : {old new : CountedState} (w : ChainResult) → WalksChain is_at 4 (symbol_bytes (length wanted)) walk old new (Ok w)
       → LooksBySysv file (looked_up file at wanted) old new (Ok (lookup_in s.link w)) 4 (length wanted)
   looks_answered w walks = record { costs = charges _ walks; finds = finds_found w.found w.tried w.read walks.gives }
 
-  pub looks_failed : {old new : CountedState} (fault : Fault) → WalksChain stands 4 (symbol_bytes (length wanted)) walk old new (Err fault)
+  pub looks_failed : {old new : CountedState} (fault : Fault) → WalksChain is_at 4 (symbol_bytes (length wanted)) walk old new (Err fault)
       → LooksBySysv file (looked_up file at wanted) old new (Err fault) 4 (length wanted)
   looks_failed fault walks = record { costs = charges _ walks; finds = fails fault walks.gives }

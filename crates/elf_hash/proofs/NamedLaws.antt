@@ -24,8 +24,8 @@ module _ (file : List ℕ) (symbols : TableRange) (names : StringTableRange) (wa
       (symbol : Sym) (off : ℕ) → index < symbols.count → IsSym file (row_at symbols index) symbol → off ≡ symbol.st_name
       → says index ≡ fault_at (row_at symbols index) (same (strings_in file names) off wanted)
   unfolding same_symbol
-  says_is symbol off low stands place =
-      let name : off ≡ st_name file (symbol_at file is.table index) = place ∙ (stands.st_name ∙ ap (st_name file) row_is) in
+  says_is symbol off low is_at place =
+      let name : off ≡ st_name file (symbol_at file is.table index) = place ∙ (is_at.st_name ∙ ap (st_name file) row_is) in
       rw (is.strings (omega arith), name, row_is) (ap (λ (f : ℕ → Result Bool Refusal). f index) is.says_so)
 
   -- the result for the symbol by the comparison of its name
@@ -33,8 +33,8 @@ module _ (file : List ℕ) (symbols : TableRange) (names : StringTableRange) (wa
       (symbol : Sym) (off place : ℕ) (equal : Result Bool Fault) → index < symbols.count
       → IsSym file (row_at symbols index) symbol → off ≡ symbol.st_name → place ≡ row_at symbols index
       → ComparesName place equal (same (strings_in file names) off wanted) → TriesSymbol (λ i answer. IsSym file (row_at symbols i) answer.symbol) says index (picked symbol equal)
-  tries symbol off place (Ok true) low stands name here compared = (says_is symbol off low stands name ∙ rw compared refl, stands)
-  tries symbol off place (Ok false) low stands name here compared = says_is symbol off low stands name ∙ rw compared refl
-  tries symbol off place (Err (Refused refusal)) low stands name here refuses = λ other.
-      let r = refuses other in says_is symbol off low stands name ∙ rw (r.1, r.0, here) refl
-  tries symbol off place (Err (Source fault offset)) low stands name here refuses = tt
+  tries symbol off place (Ok true) low is_at name here compared = (says_is symbol off low is_at name ∙ rw compared refl, is_at)
+  tries symbol off place (Ok false) low is_at name here compared = says_is symbol off low is_at name ∙ rw compared refl
+  tries symbol off place (Err (Refused refusal)) low is_at name here refuses = λ other.
+      let r = refuses other in says_is symbol off low is_at name ∙ rw (r.1, r.0, here) refl
+  tries symbol off place (Err (Source fault offset)) low is_at name here refuses = tt

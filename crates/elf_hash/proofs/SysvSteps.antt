@@ -133,66 +133,66 @@ module _ (file : List ℕ) (table : Table) (hash : ℕ) (says : ℕ → Result B
   more steps word t =
       least_more walk (sysv_walk_answers file table hash says) steps t.along.goes t.few (rw (← t.along.word_is) t.tries)
 
-  module _ (stands : ℕ → SymbolMatch → Type 0) (cost : ℕ) where
+  module _ (is_at : ℕ → SymbolMatch → Type 0) (cost : ℕ) where
     module _ (steps word place : ℕ) (along : Along steps word place) where
-      pub meets_absent : word ≡ 0 → Meets stands 4 cost walk (walk_bytes 4 steps steps cost) (Ok (record { found = None; tried = steps; read = steps }))
+      pub meets_absent : word ≡ 0 → Meets is_at 4 cost walk (walk_bytes 4 steps steps cost) (Ok (record { found = None; tried = steps; read = steps }))
       unfolding sysv_walked_at
       meets_absent none =
-          meets_answer stands 4 cost walk _ steps steps None (ends_here steps word place Last along (rw none end_none)) (omega arith) tt
+          meets_answer is_at 4 cost walk _ steps steps None (ends_here steps word place Last along (rw none end_none)) (omega arith) tt
 
       pub meets_no_index : 0 < word → is_sysv_index file table word ≡ false
-          → Meets stands 4 cost walk (walk_bytes 4 steps steps cost) (Err (Refused (record { at = place; cause = HashIndex })))
+          → Meets is_at 4 cost walk (walk_bytes 4 steps steps cost) (Err (Refused (record { at = place; cause = HashIndex })))
       unfolding sysv_walked_at
       meets_no_index some isnt =
           rw (along.place_is)
-          (meets_refusal stands 4 cost walk _ steps steps _ (ends_here steps word place NotThere along (end_no_index word some isnt)) (omega arith))
+          (meets_refusal is_at 4 cost walk _ steps steps _ (ends_here steps word place NotThere along (end_no_index word some isnt)) (omega arith))
 
       pub meets_cycle : (start : ℕ) → start ≡ sysv_bucket_of file table.place hash → steps ≡ sysv_nchain file table.place → 0 < word
           → is_sysv_index file table word ≡ true
-          → Meets stands 4 cost walk (walk_bytes 4 steps steps cost) (Err (Refused (record { at = start; cause = HashCycle })))
+          → Meets is_at 4 cost walk (walk_bytes 4 steps steps cost) (Err (Refused (record { at = start; cause = HashCycle })))
       meets_cycle start here all some is =
           let gives : walk ≡ sysv_cycle file table.place hash
           = goes_round walk (sysv_walk_answers file table hash says) (sysv_walk_is_bounded file table hash says).1 (rw (← all) along.goes)
           (rw (← all, ← along.word_is) (end_tried word some is)) in
-          rw (here, all) (meets_refusal stands 4 cost walk _ _ _ _ gives (omega arith))
+          rw (here, all) (meets_refusal is_at 4 cost walk _ _ _ _ gives (omega arith))
 
     module _ (steps word : ℕ) (t : Tried steps word) where
-      pub meets_untried_here : (fault : Fault) (index : ℕ) → index ≡ word → TriesSymbol stands says index (Err fault)
-          → Meets stands 4 cost walk (walk_bytes 4 steps steps cost + cost) (Err fault)
+      pub meets_untried_here : (fault : Fault) (index : ℕ) → index ≡ word → TriesSymbol is_at says index (Err fault)
+          → Meets is_at 4 cost walk (walk_bytes 4 steps steps cost + cost) (Err fault)
       unfolding sysv_walked_at
       meets_untried_here fault index same tries =
           let few = more steps word t in
-          meets_untried stands 4 cost walk _ (suc steps) (suc steps) word says fault
-          (subst (λ (i : ℕ). TriesSymbol stands says i (Err fault)) same tries)
+          meets_untried is_at 4 cost walk _ (suc steps) (suc steps) word says fault
+          (subst (λ (i : ℕ). TriesSymbol is_at says i (Err fault)) same tries)
           (λ refusal e. ends_here steps word t.place (Untried refusal) t.along (t.tries ∙ rw e refl))
           few.0 few.1 (omega (arith, bytes_tried 4 steps steps cost))
 
-      pub meets_found : (answer : SymbolMatch) (index : ℕ) → index ≡ word → TriesSymbol stands says index (Ok (Some answer))
-          → Meets stands 4 cost walk (walk_bytes 4 steps steps cost + cost)
+      pub meets_found : (answer : SymbolMatch) (index : ℕ) → index ≡ word → TriesSymbol is_at says index (Ok (Some answer))
+          → Meets is_at 4 cost walk (walk_bytes 4 steps steps cost + cost)
           (Ok (record { found = Some (record { index = word; answer = answer }); tried = steps + 1; read = steps + 1 }))
       unfolding sysv_walked_at
       meets_found answer index same tries =
           rw (add-one, ← same)
-          (meets_answer stands 4 cost walk _ (suc steps) (suc steps) _
+          (meets_answer is_at 4 cost walk _ (suc steps) (suc steps) _
           (rw (same, t.along.word_is) (ends_here steps word t.place Answers t.along (t.tries ∙ rw (sym (ap says same) ∙ tries.0) refl)))
           (omega (arith, bytes_tried 4 steps steps cost)) tries.1)
 
-      pub meets_unread : (fault : Fault) → IsOfRead fault → Meets stands 4 cost walk (walk_bytes 4 steps steps cost + cost + 4) (Err fault)
+      pub meets_unread : (fault : Fault) → IsOfRead fault → Meets is_at 4 cost walk (walk_bytes 4 steps steps cost + cost + 4) (Err fault)
       meets_unread fault read =
           let few = more steps word t in
-          meets_fault stands 4 cost walk _ (suc steps) (suc steps) fault read few.0 few.1 (omega (arith, bytes_tried 4 steps steps cost))
+          meets_fault is_at 4 cost walk _ (suc steps) (suc steps) fault read few.0 few.1 (omega (arith, bytes_tried 4 steps steps cost))
 
       -- past a symbol that does not match
-      pub along_next : (found : Option SymbolMatch) (next place index : ℕ) → index ≡ word → TriesSymbol stands says index (Ok found) → ((answer : SymbolMatch) → found ≡ Some answer → ⊥)
+      pub along_next : (found : Option SymbolMatch) (next place index : ℕ) → index ≡ word → TriesSymbol is_at says index (Ok found) → ((answer : SymbolMatch) → found ≡ Some answer → ⊥)
           → place ≡ sysv_chain_at file table.place word → next ≡ field file place 4 → Along (steps + 1) next place
       unfolding walk_word sysv_word_at
-      along_next (Some answer) next place index same tries other stands read = absurd (other answer refl)
-      along_next None next place index same tries other stands read =
+      along_next (Some answer) next place index same tries other is_at read = absurd (other answer refl)
+      along_next None next place index same tries other is_at read =
           rw (add-one)
           (record {
             goes = goes_on_more ends words steps t.along.goes (rw (← t.along.word_is) (t.tries ∙ rw (sym (ap says same) ∙ tries) refl));
-            word_is = rw (read, stands, t.along.word_is) refl;
-            place_is = rw (stands, t.along.word_is) refl;
+            word_is = rw (read, is_at, t.along.word_is) refl;
+            place_is = rw (is_at, t.along.word_is) refl;
           })
 
 -- the offsets of the words of a table

@@ -32,20 +32,20 @@ pub bytes_step : (few steps most cost : ℕ) → suc steps ≤ most → walk_byt
 bytes_step few steps most cost one =
     omega (arith, bytes_tried few steps steps cost, bytes_most few (suc steps) (suc steps) most most cost one one)
 
-module _ (stands : ℕ → SymbolMatch → Type 0) (few cost : ℕ) (walk : NoteScan) where
+module _ (is_at : ℕ → SymbolMatch → Type 0) (few cost : ℕ) (walk : NoteScan) where
   -- how a walk ends that has requested a number of bytes: within its cost, and with its result
   pub record Meets (spent : ℕ) (result : Result ChainResult Fault) : Type 0 where
     pub within : spent ≤ walk_bytes few walk.read walk.tried cost
-    pub gives : GivesWalked stands walk result
+    pub gives : GivesWalked is_at walk result
 
   -- and so it has its effect
   pub walks : {old new : CountedState} (spent : ℕ) (result : Result ChainResult Fault)
       → ((most : ℕ) → spent ≤ most → CallReads old new (fault_of_result result) most) → Meets spent result
-      → WalksChain stands few cost walk old new result
+      → WalksChain is_at few cost walk old new result
   walks spent result costs meets = record { costs = costs _ meets.within; gives = meets.gives }
 
   pub meets_answer : (spent tried read : ℕ) (found : Option ChainMatch) → walk ≡ record { answer = Ok (index_of found); tried = tried; read = read }
-      → spent ≤ walk_bytes few read tried cost → IfSome found (λ f. stands f.index f.answer)
+      → spent ≤ walk_bytes few read tried cost → IfSome found (λ f. is_at f.index f.answer)
       → Meets spent (Ok (record { found = found; tried = tried; read = read }))
   meets_answer spent tried read found is within symbol = record { within = rw is within; gives = (is, symbol) }
 
@@ -60,7 +60,7 @@ module _ (stands : ℕ → SymbolMatch → Type 0) (few cost : ℕ) (walk : Note
   meets_fault spent tried read (Refused refusal) of_read t r within =
       record { within = omega (arith, within, bytes_most few read tried walk.read walk.tried cost r t); gives = λ other. absurd (other of_read) }
 
-  pub meets_untried : (spent tried read index : ℕ) (says : ℕ → Result Bool Refusal) (fault : Fault) → TriesSymbol stands says index (Err fault)
+  pub meets_untried : (spent tried read index : ℕ) (says : ℕ → Result Bool Refusal) (fault : Fault) → TriesSymbol is_at says index (Err fault)
       → ((refusal : Refusal) → says index ≡ Err refusal → walk ≡ refused_walk tried read refusal)
       → tried ≤ walk.tried → read ≤ walk.read → spent ≤ walk_bytes few read tried cost → Meets spent (Err fault)
   meets_untried spent tried read index says (Source fault at) tries ends t r within =

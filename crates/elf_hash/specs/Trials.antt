@@ -9,16 +9,16 @@ use Rattle.elf_hash.specs.declared.answer.SymbolMatch.{SymbolMatch}
 
 -- the matcher's result for a symbol is as specified: if it matches, the match; nothing, if it does
 -- not; or why it cannot be tried, unless it is refused with `Budget`
-abbrev pub TriesSymbol : (stands : ℕ → SymbolMatch → Type 0) (says : ℕ → Result Bool Refusal) → ℕ → Result (Option SymbolMatch) Fault → Type 0
-TriesSymbol stands says index (Ok (Some answer)) = (says index ≡ Ok true) × stands index answer
-TriesSymbol stands says index (Ok None) = says index ≡ Ok false
-TriesSymbol stands says index (Err (Refused refusal)) = (IsBudgetRefusal refusal → ⊥) → says index ≡ Err refusal
-TriesSymbol stands says index (Err (Source fault at)) = Unit {0}
+abbrev pub TriesSymbol : (is_at : ℕ → SymbolMatch → Type 0) (says : ℕ → Result Bool Refusal) → ℕ → Result (Option SymbolMatch) Fault → Type 0
+TriesSymbol is_at says index (Ok (Some answer)) = (says index ≡ Ok true) × is_at index answer
+TriesSymbol is_at says index (Ok None) = says index ≡ Ok false
+TriesSymbol is_at says index (Err (Refused refusal)) = (IsBudgetRefusal refusal → ⊥) → says index ≡ Err refusal
+TriesSymbol is_at says index (Err (Source fault at)) = Unit {0}
 
 -- the same for a symbol that is to be tried, or not
-abbrev pub TriesDefinedSymbol : Bool → (stands : ℕ → SymbolMatch → Type 0) (says : ℕ → Result Bool Refusal) → ℕ → Result (Option SymbolMatch) Fault → Type 0
-TriesDefinedSymbol true stands says index result = TriesSymbol stands says index result
-TriesDefinedSymbol false stands says index result = result ≡ Ok None
+abbrev pub TriesDefinedSymbol : Bool → (is_at : ℕ → SymbolMatch → Type 0) (says : ℕ → Result Bool Refusal) → ℕ → Result (Option SymbolMatch) Fault → Type 0
+TriesDefinedSymbol true is_at says index result = TriesSymbol is_at says index result
+TriesDefinedSymbol false is_at says index result = result ≡ Ok None
 
 -- the function says of the symbols of a section whose header is at an offset whether they have a
 -- name

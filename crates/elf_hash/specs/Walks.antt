@@ -20,18 +20,18 @@ index_of None = None
 index_of (Some found) = Some found.index
 
 -- the result of a walk: the match, with its cost; or its refusal, unless that is `Budget`
-abbrev pub GivesWalked : (stands : ℕ → SymbolMatch → Type 0) → NoteScan → Result ChainResult Fault → Type 0
-GivesWalked stands walk (Ok w) =
+abbrev pub GivesWalked : (is_at : ℕ → SymbolMatch → Type 0) → NoteScan → Result ChainResult Fault → Type 0
+GivesWalked is_at walk (Ok w) =
     (walk ≡ record { answer = Ok (index_of w.found); tried = w.tried; read = w.read })
-    × IfSome w.found (λ found. stands found.index found.answer)
-GivesWalked stands walk (Err (Refused refusal)) = (IsBudgetRefusal refusal → ⊥) → walk.answer ≡ Err refusal
-GivesWalked stands walk (Err (Source fault at)) = Unit {0}
+    × IfSome w.found (λ found. is_at found.index found.answer)
+GivesWalked is_at walk (Err (Refused refusal)) = (IsBudgetRefusal refusal → ⊥) → walk.answer ≡ Err refusal
+GivesWalked is_at walk (Err (Source fault at)) = Unit {0}
 
 -- THE EFFECT OF A WALK in a known file: it costs what the definition's walk does, and has its
 -- result
-pub record WalksChain (stands : ℕ → SymbolMatch → Type 0) (few cost : ℕ) (walk : NoteScan) (old new : CountedState) (result : Result ChainResult Fault) : Type 0 where
+pub record WalksChain (is_at : ℕ → SymbolMatch → Type 0) (few cost : ℕ) (walk : NoteScan) (old new : CountedState) (result : Result ChainResult Fault) : Type 0 where
   pub costs : CallReads old new (fault_of_result result) (walk_bytes few walk.read walk.tried cost)
-  pub gives : GivesWalked stands walk result
+  pub gives : GivesWalked is_at walk result
 
 -- a walk tries no more symbols than a number, and the one that matches has an index below it
 abbrev pub IsShort : ℕ → ChainResult → Type 0

@@ -69,7 +69,7 @@ pub fn walk<S: Source, T: Matcher>(
         (T.cost trial.now))
         (λ file. (scope : LookupTables) (says : ℕ → Result Bool Refusal) →
         IsTable file scope table.now →
-        T.is_of trial.now file says → WalksChain (T.stands trial.now file) 12 (T.cost trial.now)
+        T.is_of trial.now file says → WalksChain (T.is_at trial.now file) 12 (T.cost trial.now)
         (walked_in file scope name.now says) src.old src.new result) }
 {
     match table {

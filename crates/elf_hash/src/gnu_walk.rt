@@ -35,7 +35,7 @@ pub(crate) fn gnu_walk<S: Source, T: Matcher>(
     ensures did { CallDid src.old src.new (fault_of_result result)
         (walk_bytes 12 (table.now.place.size / 4) (table.now.place.size / 4) (T.cost trial.now))
         (λ file. (at : Place) (says : ℕ → Result Bool Refusal) → IsGnu file at table.now →
-        T.is_of trial.now file says → WalksChain (T.stands trial.now file) 12 (T.cost trial.now)
+        T.is_of trial.now file says → WalksChain (T.is_at trial.now file) 12 (T.cost trial.now)
         (gnu_looked_up file at hash says) src.old src.new result) }
 {
     match start(src, table, hash)? {
@@ -103,7 +103,7 @@ fn along_chain<S: Source, T: Matcher>(
         (walk_bytes 0 (table.now.place.size / 4) (table.now.place.size / 4) (T.cost trial.now))
         (λ file. (at : Place) (says : ℕ → Result Bool Refusal) → IsGnu file at table.now →
         T.is_of trial.now file says → HoldsHash file at.place hash start →
-        WalksChain (T.stands trial.now file) 0 (T.cost trial.now)
+        WalksChain (T.is_at trial.now file) 0 (T.cost trial.now)
         (gnu_looked_up file at hash says) src.old src.new result) }
 {
     let mut at = table.bucket_at(hash);
@@ -165,7 +165,7 @@ fn tried_where<S: Source, T: Matcher>(
     ensures { CallDid src.old src.new (fault_of_result result)
         (cost_where is_wanted (T.cost trial.now))
         (λ file. (says : ℕ → Result Bool Refusal) → T.is_of trial.now file says →
-        TriesDefinedSymbol is_wanted (T.stands trial.now file) says index result) }
+        TriesDefinedSymbol is_wanted (T.is_at trial.now file) says index result) }
 {
     if is_wanted {
         trial.tried(src, index)

@@ -18,7 +18,7 @@ pub trait Matcher {
     ghost cost: { Self → ℕ };
 
     /// Holds of a file if this is the result for the symbol of an index.
-    ghost stands: { Self → List ℕ → ℕ → SymbolMatch → Type 0 };
+    ghost is_at: { Self → List ℕ → ℕ → SymbolMatch → Type 0 };
 
     /// Holds if all that it reads lies within a source of a size.
     ghost lies: { Self → ℕ → Type 0 };
@@ -41,5 +41,5 @@ pub trait Matcher {
         requires lies { lies self.now src.old.seen.size }
         ensures did { CallDid src.old src.new (fault_of_result result) (cost self.now)
             (λ file. (says : ℕ → Result Bool Refusal) → is_of self.now file says →
-            TriesSymbol (stands self.now file) says index result) };
+            TriesSymbol (is_at self.now file) says index result) };
 }

@@ -27,7 +27,7 @@ impl<'a> Matcher for NameMatcher<'a> {
 
     ghost cost = { λ t. symbol_bytes (length t.wanted.now) };
 
-    ghost stands = { λ t file index answer. IsSym file (row_at t.symbols index) answer.symbol };
+    ghost is_at = { λ t file index answer. IsSym file (row_at t.symbols index) answer.symbol };
 
     ghost lies = { λ t size.
         SymbolTableInBounds size (t.symbols, t.names) × (length t.wanted.now ≤ 4096) };

@@ -34,7 +34,7 @@ pub(crate) fn sysv_walk<S: Source, T: Matcher>(
     ensures did { CallDid src.old src.new (fault_of_result result)
         (walk_bytes 4 table.now.nchain table.now.nchain (T.cost trial.now))
         (λ file. (at : Place) (says : ℕ → Result Bool Refusal) → IsSysv file at table.now →
-        T.is_of trial.now file says → WalksChain (T.stands trial.now file) 4 (T.cost trial.now)
+        T.is_of trial.now file says → WalksChain (T.is_at trial.now file) 4 (T.cost trial.now)
         (sysv_walked file at hash says) src.old src.new result) }
     ensures short { IfOk result (IsShort table.now.nchain) }
 {

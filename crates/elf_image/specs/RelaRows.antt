@@ -3,7 +3,7 @@ use Rattle.std.specs.Prelude.{ℕ, ◌≡◌, ◌+◌, ◌*◌, ◌%◌, ◌^◌
 use Rattle.elf_model.specs.Prelude.{field}
 use Rattle.elf_model.specs.Bytes.{slice}
 use Rattle.elf_model.specs.Records.{r_addend, r_offset, r_type}
-use Rattle.elf_model.specs.Numbers.{R_X86_64_IRELATIVE}
+use Rattle.elf_model.specs.Numbers.{R_X86_64_COPY, R_X86_64_IRELATIVE}
 use Rattle.elf_record.specs.Rela.{IsRela}
 use Rattle.elf_table.specs.Windows.{HoldsBytes}
 use Rattle.elf_image.specs.Within.{RelaRowsAlive}
@@ -19,7 +19,7 @@ is_in_reach reach address = not (nat_lt address reach.first) && not (nat_lt reac
 -- R_X86_64_COPY, which may store any number of bytes, nor of R_X86_64_IRELATIVE
 pub record IsRowFar (row : List ℕ) (reach : WindowReach) : Type 0 where
   pub direct : field row 8 8 % 2 ^ 32 ≡ 37 → ⊥
-  pub small : field row 8 8 % 2 ^ 32 ≡ 5 → ⊥
+  pub small : field row 8 8 % 2 ^ 32 ≡ R_X86_64_COPY → ⊥
   pub far : is_in_reach reach (field row 0 8) ≡ false
 
 -- none of the first entries of some bytes can
@@ -29,7 +29,7 @@ AreFarRows bytes reach count = (i : ℕ) → i < count → IsRowFar (slice bytes
 -- the same of an entry of a file, at an offset
 pub record IsFarEntry (file : List ℕ) (rela : ℕ) (reach : WindowReach) : Type 0 where
   pub direct : r_type file rela ≡ R_X86_64_IRELATIVE → ⊥
-  pub small : r_type file rela ≡ 5 → ⊥
+  pub small : r_type file rela ≡ R_X86_64_COPY → ⊥
   pub far : is_in_reach reach (r_offset file rela) ≡ false
 
 abbrev pub IsFarRow : List ℕ → (rela : ℕ) → Option WindowReach → Type 0

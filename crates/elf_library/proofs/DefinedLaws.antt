@@ -139,11 +139,11 @@ module _ (file : List ℕ) (table : ℕ) where
           let same : record_position_of n ≡ record { kind = Definition; place = s.place + d; from = table + s.place; owner = 0 } = cc in
           ap (λ (r : RecordCursorState). r.kind) same
 
-  stands : (size : ℕ) (standing : Option RecordPosition) (left : ℕ) (met : VisitedRecord) (rest : Versions) → visited_from file table size (option_map record_position_of standing) left ≡ with_visited met rest
+  is_at : (size : ℕ) (standing : Option RecordPosition) (left : ℕ) (met : VisitedRecord) (rest : Versions) → visited_from file table size (option_map record_position_of standing) left ≡ with_visited met rest
       → standing ≡ None → ⊥
   unfolding visited_from
-  stands size None left met rest e none = empty met rest.met (ap (λ (v : Versions). v.met) e)
-  stands size (Some s) left met rest e none = nowhere s none
+  is_at size None left met rest e none = empty met rest.met (ap (λ (v : Versions). v.met) e)
+  is_at size (Some s) left met rest e none = nowhere s none
 
 module _ (file : List ℕ) (old new : VersionCursorState) (given : VersionRecord) (gives : GivesVersion file (versions_left file old) (versions_left file new) given) where
   pub met_kind : AtDefinition old.standing → gives.met.kind ≡ Definition
@@ -151,7 +151,7 @@ module _ (file : List ℕ) (old new : VersionCursorState) (given : VersionRecord
 
   pub next_kind : LeadsOn file old new → AtDefinition old.standing → AtDefinition new.standing
   next_kind leads at =
-      next_in file old.held.table.at old.standing new.standing leads (stands file old.held.table.at old.held.table.count old.standing old.left gives.met (versions_left file new) gives.first) at
+      next_in file old.held.table.at old.standing new.standing leads (is_at file old.held.table.at old.held.table.count old.standing old.left gives.met (versions_left file new) gives.first) at
 
 -- THE RECORDS THAT ARE LEFT
 module _ (file version : List ℕ) (hash : ℕ) (strings : List ℕ) where

@@ -85,8 +85,8 @@ unfolding definer_walk
 definer_walk_is file scope wanted is_wanted = refl
 
 pub definer_walks :
-    {a b : CountedState} {stands : ℕ → SymbolMatch → Type 0} (file : List ℕ) (scope : IsScopeOf) (wanted : SymbolQuery) (is_wanted : ℕ → Bool) (cost : ℕ) (result : Result ChainResult Fault)
-    → WalksChain stands 12 cost (walked_in file scope wanted.name (defines file scope.symbols wanted is_wanted)) a b result → WalksChain stands 12 cost (definer_walk file scope wanted is_wanted) a b result
+    {a b : CountedState} {is_at : ℕ → SymbolMatch → Type 0} (file : List ℕ) (scope : IsScopeOf) (wanted : SymbolQuery) (is_wanted : ℕ → Bool) (cost : ℕ) (result : Result ChainResult Fault)
+    → WalksChain is_at 12 cost (walked_in file scope wanted.name (defines file scope.symbols wanted is_wanted)) a b result → WalksChain is_at 12 cost (definer_walk file scope wanted is_wanted) a b result
 definer_walks file scope wanted is_wanted cost result walks = rw (definer_walk_is file scope wanted is_wanted) walks
 
 -- THE WALK, before which n records were read
@@ -94,20 +94,20 @@ module _ (wanted : SymbolQuery) (before : ℕ) (walk : NoteScan) where
   spends : before * record_cost wanted.asked + walk_bytes 12 walk.read walk.tried (match_bytes wanted) ≤ 12 + definition_cost wanted (definer_by before walk)
   spends = let are = asks_are wanted (definer_by before walk) in omega (arith, are)
 
-  pub defines_unwalked : {a b : CountedState} {stands : ℕ → SymbolMatch → Type 0} (fault : Fault) → WalksChain stands 12 (match_bytes wanted) walk a b (Err fault)
+  pub defines_unwalked : {a b : CountedState} {is_at : ℕ → SymbolMatch → Type 0} (fault : Fault) → WalksChain is_at 12 (match_bytes wanted) walk a b (Err fault)
       → DefinesAfter wanted 12 (before * record_cost wanted.asked) (definer_by before walk) a b (Err fault)
-  defines_unwalked {stands = stands} fault walks = record {
+  defines_unwalked {is_at = is_at} fault walks = record {
     spent = walk_bytes 12 walk.read walk.tried (match_bytes wanted);
     costs = walks.costs;
     within = spends;
     tells = tells fault walks.gives;
   }
     where
-      tells : (fault : Fault) → GivesWalked stands walk (Err fault) → ReturnsDefiner (definer_by before walk) (Err fault)
+      tells : (fault : Fault) → GivesWalked is_at walk (Err fault) → ReturnsDefiner (definer_by before walk) (Err fault)
       tells (Refused refusal) gives = gives
       tells (Source fault at) gives = tt
 
-  pub defines_walked : {a b : CountedState} {stands : ℕ → SymbolMatch → Type 0} (w : ChainResult) → WalksChain stands 12 (match_bytes wanted) walk a b (Ok w)
+  pub defines_walked : {a b : CountedState} {is_at : ℕ → SymbolMatch → Type 0} (w : ChainResult) → WalksChain is_at 12 (match_bytes wanted) walk a b (Ok w)
       → DefinesAfter wanted 12 (before * record_cost wanted.asked) (definer_by before walk) a b (Ok (index_of w.found))
   defines_walked w walks = record {
     spent = walk_bytes 12 walk.read walk.tried (match_bytes wanted);

@@ -121,19 +121,19 @@ module _ (file : List ℕ) (address size : Option ℕ) (at : ℕ) where
 
       pub text_stops : (strings : List ℕ) (room : TextRoom) (before old new : LinkInfoState) (fault : Fault) → strings_at file at address size ≡ Ok strings → room ≡ state.room
           → (off : ℕ) → off ≡ d_un file at → ReturnsText (text_by room at (shown strings off 4096)) old new (Err fault) → ReturnsLinks (linked_with file address size at state) before new (Err fault)
-      text_stops strings room before old new (Refused refusal) e same off stands tells = λ other.
+      text_stops strings room before old new (Refused refusal) e same off is_at tells = λ other.
           with_refused refusal
-          (text_is state.room strings e ∙ ap (λ (n : ℕ). text_by state.room at (shown strings n 4096)) (sym stands) ∙ ap (λ (r : TextRoom). text_by r at (shown strings off 4096)) (sym same)
+          (text_is state.room strings e ∙ ap (λ (n : ℕ). text_by state.room at (shown strings n 4096)) (sym is_at) ∙ ap (λ (r : TextRoom). text_by r at (shown strings off 4096)) (sym same)
           ∙ tells other)
-      text_stops strings room before old new (Source fault offset) e same off stands tells = tt
+      text_stops strings room before old new (Source fault offset) e same off is_at tells = tt
 
       -- its text is stored
       module _ (strings : List ℕ) (before old mid : LinkInfoState) (index : ℕ) (links : LinkInfo) (e : strings_at file at address size ≡ Ok strings)
-          (off : ℕ) (stands : off ≡ d_un file at) (k : KeepsText (text_by old.held.room at (shown strings off 4096)) old mid index) (l : KeepsLinks before old links state) where
+          (off : ℕ) (is_at : off ≡ d_un file at) (k : KeepsText (text_by old.held.room at (shown strings off 4096)) old mid index) (l : KeepsLinks before old links state) where
         told : linked_with file address size at state ≡ Ok (record { links = linked_by (d_tag file at) at k.text state.links; room = room_after state.room k.text })
         told =
             with_told k.text
-            (text_is state.room strings e ∙ ap (λ (n : ℕ). text_by state.room at (shown strings n 4096)) (sym stands) ∙ ap (λ (r : TextRoom). text_by r at (shown strings off 4096)) (sym l.room)
+            (text_is state.room strings e ∙ ap (λ (n : ℕ). text_by state.room at (shown strings n 4096)) (sym is_at) ∙ ap (λ (r : TextRoom). text_by r at (shown strings off 4096)) (sym l.room)
             ∙ k.reported_text)
 
         texts_more : old.held.texts ++ k.text ∷ [] ≡ before.held.texts ++ (l.more ++ k.text ∷ [])

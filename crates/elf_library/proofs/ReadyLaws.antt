@@ -177,8 +177,8 @@ unfolding meetings
 meetings_end strings [] others ends rest = rest
 meetings_end strings (m ∷ met) others ends rest = (ends, meetings_end strings met others ends rest)
 
-end_ends : (stands : Bool) (cut : Option Refusal) (others : List VersionRecordRead) → StringsEnd others → StringsEnd (end_reading stands cut ++ others)
-end_ends stands None others rest = rest
+end_ends : (is_at : Bool) (cut : Option Refusal) (others : List VersionRecordRead) → StringsEnd others → StringsEnd (end_reading is_at cut ++ others)
+end_ends is_at None others rest = rest
 end_ends true (Some refusal) others rest = tt
 end_ends false (Some refusal) others rest = tt
 

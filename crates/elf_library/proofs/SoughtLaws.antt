@@ -175,12 +175,12 @@ module _ (file : List ℕ) (told : AreSymbolsOf) (symbols : DynamicSymbols) (y :
 
 -- A SYMBOL that is read
 module _ (file : List ℕ) (told : AreSymbolsOf) (symbols : DynamicSymbols) (index : ℕ) (symbol : Sym) (is : IsDynamicSymbols file told symbols) (entry : symbols.table.entry ≡ 24) (low : index < symbols.table.count)
-    (stands : IsSym file (row_at symbols.table index) symbol) where
+    (is_at : IsSym file (row_at symbols.table index) symbol) where
   place_is : row_at symbols.table index ≡ symbol_offset told index
   place_is = rw (entry, is.place) (omega arith)
 
   pub symbol_is : IsSym file (symbol_offset told index) symbol
-  symbol_is = subst (λ (at : ℕ). IsSym file at symbol) place_is stands
+  symbol_is = subst (λ (at : ℕ). IsSym file at symbol) place_is is_at
 
   pub nothing : is_reference file (symbol_offset told index) ≡ false → reference_at file told index ≡ Ok None
   unfolding reference_at

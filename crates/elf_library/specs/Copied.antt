@@ -1,15 +1,11 @@
 -- The symbols whose data a program copies from its libraries, by its relocation entries.
 use Rattle.std.specs.Prelude.{ℕ, ◌≡◌, ◌+◌, ◌/◌, ◌%◌, ◌^◌, ◌==◌, if◌then◌else◌, List, Option, None, Some}
-use Rattle.elf_model.specs.Prelude.{DT_RELA, DT_RELASZ, field, listed_value}
+use Rattle.elf_model.specs.Prelude.{DT_RELA, DT_RELASZ, R_X86_64_COPY, field, listed_value}
 use Rattle.elf_table.specs.Prelude.{TableRange}
 use Rattle.elf_table.specs.declared.fault.Fault.{Fault}
 use Rattle.elf_library.specs.Kept.{LookupObjectState}
 use Rattle.elf_library.specs.Looks.{SpendsAtMost, SpendsBudget}
 use Rattle.elf_library.specs.declared.copied_symbols.RelocationTags.{RelocationTags}
-
--- the type of an entry that copies a symbol's data (psABI, Relocation Types)
-abbrev pub R_X86_64_COPY : ℕ
-R_X86_64_COPY = 5
 
 -- the address and the size are those of the first listed entries of a table with these tags
 pub record AreRelocationTags (file : List ℕ) (table : TableRange) (found : RelocationTags) : Type 0 where

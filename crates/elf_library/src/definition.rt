@@ -32,7 +32,7 @@ impl<'a> Matcher for DefinitionMatcher<'a> {
 
     ghost cost = { λ t. 26 + pad64 (length t.offered.wanted.now.name.now + 1) };
 
-    ghost stands = { λ t file. IsSymbolWithVersym file t.offered.symbols.now };
+    ghost is_at = { λ t file. IsSymbolWithVersym file t.offered.symbols.now };
 
     ghost lies = { λ t size.
         DynamicSymbolsInBounds size t.offered.symbols.now

@@ -48,12 +48,12 @@ fits-word file (Some told) words asked is_wanted y word are entry low is =
 
 -- for a symbol that is read
 module _ (file : List ℕ) (told : AreSymbolsOf) (symbols : DynamicSymbols) (wanted : SymbolQuery) (is_wanted : ℕ → Bool) (index : ℕ) (symbol : Sym)
-    (is : IsDynamicSymbols file told symbols) (entry : symbols.table.entry ≡ 24) (low : index < symbols.table.count) (stands : IsSym file (row_at symbols.table index) symbol) where
+    (is : IsDynamicSymbols file told symbols) (entry : symbols.table.entry ≡ 24) (low : index < symbols.table.count) (is_at : IsSym file (row_at symbols.table index) symbol) where
   pub place-is : row_at symbols.table index ≡ symbol_offset told index
   place-is = rw (entry, is.place) (omega arith)
 
   pub symbol-is : IsSym file (symbol_offset told index) symbol
-  symbol-is = subst (λ (at : ℕ). IsSym file at symbol) place-is stands
+  symbol-is = subst (λ (at : ℕ). IsSym file at symbol) place-is is_at
 
   name-is : same told.strings (st_name file (symbol_offset told index)) wanted.name ≡ same (strings_in file symbols.names) symbol.st_name wanted.name
   name-is =

@@ -65,7 +65,7 @@ finds-here :
     → ((before : ℕ) (walked : ChainResult) → found_in file scope asked before y walked (Some words)
     ≡ found_lookup scope y walked before false (Some (record { index = words.index; word = versym file (versym_at words y); name = name_shown (asked_name asked) told named })))
     → FindsVersion Some file scope asked (Some words) y c c told (Ok (record { index = code.index; word = word; name = named; name_at = 0 }))
-finds-here file scope asked words y word told c code named is here stands none in_is = record {
+finds-here file scope asked words y word told c code named is here is_at none in_is = record {
   records = 0;
   is_named = false;
   costs = CallReads-more _ (omega arith) none;
@@ -76,7 +76,7 @@ finds-here file scope asked words y word told c code named is here stands none i
       let e = in_is before walked in
       let index = is.index in
       rw (e, index, here) refl;
-  stands = stands;
+  is_at = is_at;
 }
 
 -- under the wanted name
@@ -125,7 +125,7 @@ finds-told file scope asked words y word told a b code name n is here high tells
           let e = in_told before walked ∙ tells.1 walked in
           let index = is.index in
           rw (e, index, here) refl;
-      stands = tells.2;
+      is_at = tells.2;
     }
 
 -- or it is not returned
@@ -149,7 +149,7 @@ finds-fault file scope asked words y word told a b fault n here high tells =
           let spends = told-spends file scope words y walked naming in
           rw e (record { tried = spends.tried; chain_words = spends.chain_words; records = omega (arith, none, spends.records); is_named = spends.is_named });
       finds = λ walked before first. refused fault tells walked (found_in file scope asked before y walked (Some words)) (in_told before walked);
-      stands = tt;
+      is_at = tt;
     }
   where
     naming : NumberNameSource
@@ -189,7 +189,7 @@ word-at told code y is entry = rw (entry, is.place) (omega arith)
 
 pub word-is : (file : List ℕ) (told : VersymTable) (code : Words) (y word : ℕ) → IsVersymTable told code → code.words.entry ≡ 2 → word ≡ field file (row_at code.words y) 2
     → word ≡ versym file (versym_at told y)
-word-is file told code y word is entry stands = stands ∙ ap (λ (at : ℕ). field file at 2) (word-at told code y is entry)
+word-is file told code y word is entry is_at = is_at ∙ ap (λ (at : ℕ). field file at 2) (word-at told code y is entry)
 
 -- the same if there may be no versions
 pub finds-none : (file : List ℕ) (scope : LookupTables) (asked : VersionQuery) (y : ℕ) (told : List ℕ) (c : CountedState) → AreVersymTable scope.symbols.words None → FindsVersion (λ (version : Option FoundVersion). version) file scope asked scope.symbols.words y c c told (Ok None)
@@ -203,7 +203,7 @@ finds-none file scope asked y told c are = go scope.symbols.words refl are
       costs = CallReads-more _ (omega arith) (CallReads-none c);
       spends = λ walked before first. rw e (record { tried = refl; chain_words = refl; records = omega arith; is_named = refl });
       finds = λ walked before first. rw e refl;
-      stands = tt;
+      is_at = tt;
     }
     go (Some words) e none = absurd none
 
@@ -226,7 +226,7 @@ module _ {a b : CountedState} (file : List ℕ) (scope : LookupTables) (asked : 
             costs = f.costs;
             spends = λ walked before first. let is = with-words file scope asked y e before walked in rw is (f.spends walked before first);
             finds = λ walked before first. let is = with-words file scope asked y e before walked in rw is (f.finds walked before first);
-            stands = f.stands;
+            is_at = f.is_at;
           }
 
   pub finds-failed : (fault : Fault) → ((words : VersymTable) → IsVersymTable words code → FindsVersion Some file scope asked (Some words) y a b told (Err fault))
@@ -247,5 +247,5 @@ module _ {a b : CountedState} (file : List ℕ) (scope : LookupTables) (asked : 
             costs = f.costs;
             spends = λ walked before first. let is = with-words file scope asked y e before walked in rw is (f.spends walked before first);
             finds = λ walked before first. fails fault walked _ _ (with-words file scope asked y e before walked) (f.finds walked before first);
-            stands = tt;
+            is_at = tt;
           }

@@ -5,7 +5,7 @@ use Rattle.std.proofs.lemmas.Bool.Decides.{nat_tests}
 use Rattle.elf_model.specs.Prelude.{Meets, Misses, RecordCursorState, Refuses, VersionRecordRead, VersionRecordTable, Versions, VisitedRecord, end_reading, first_position, first_refusal, has_record, max_records, meetings, next_position, no_versions, position_after, readings_of, record_checks, record_size, versions_in, visited_at, visited_from, with_visited}
 use Rattle.elf_model.specs.declared.causes.Refusal.{Refusal}
 use Rattle.elf_model.specs.declared.causes.Cause.TheVariants.{VersionCut}
-use Rattle.elf_model.proofs.ReadingLaws.{stands-next}
+use Rattle.elf_model.proofs.ReadingLaws.{is_there-next}
 use Rattle.elf_model.proofs.VersionSteps.{ends-inside, met-ended, met-most, met-record, met-refused}
 use Rattle.elf_hash.specs.Prelude.{IsVersionRecordTable}
 use Rattle.elf_hash.specs.declared.symbols.VersionRecordTable.{VersionRecordTable as Given}
@@ -69,7 +69,7 @@ left-is file told others (suc left) done (Some stand) most is =
           let room : nat_lt done (max_records told.kind told.size) ≡ true = grind (arith, nat_tests) in
           rw (e, none, is, room, far, left_readings) refl
       | inr near ↦
-          let rest = left-is file told others left (suc done) (next_position file told.place stand) (omega (arith, most)) (stands-next file told done stand is) in
+          let rest = left-is file told others left (suc done) (next_position file told.place stand) (omega (arith, most)) (is_there-next file told done stand is) in
           go near rest (first_refusal (record_checks file told.place told.size stand)) refl
     ]
   where

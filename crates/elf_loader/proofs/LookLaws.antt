@@ -82,7 +82,7 @@ module _ (file : List ℕ) (told : IsScopeOf) (wanted : SymbolQuery) (before : �
         → IsLookupTables file told scope → IsSymbolWithVersym file scope.symbols y answer → tried ≡ walk.tried → FindsVersion (λ (version : Option FoundVersion). version) file told wanted.asked told.symbols.words y a b name (Ok version)
         → LooksAfter file wanted 0 asked_before looked name a b
         (Ok (IsFoundSymbol (record { section = scope.symbols.index; machine = scope.machine; index = y; symbol = answer.symbol; version = version; tried = tried })))
-    looks_found name scope answer version tried is stands same finds =
+    looks_found name scope answer version tried is is_at same finds =
         let here = is_found ∙ finds.finds walk before first in
         let spends = rw (← is_found) at (finds.spends walk before first) in
         let entry = scope.symbols.rows in
@@ -97,10 +97,10 @@ module _ (file : List ℕ) (told : IsScopeOf) (wanted : SymbolQuery) (before : �
           tells = (
             symbol_offset told.symbols y,
             rw (index, same) (ap (λ (l : LoaderLookup). l.lookup) here),
-            subst (λ (p : ℕ). IsSym file p answer.symbol) at stands.0,
+            subst (λ (p : ℕ). IsSym file p answer.symbol) at is_at.0,
             ap (λ (l : LoaderLookup). l.version) here,
             is.machine,
-            finds.stands,
+            finds.is_at,
           );
         }
 
@@ -122,20 +122,20 @@ module _ (file : List ℕ) (told : IsScopeOf) (wanted : SymbolQuery) (before : �
         tells (Source fault at) found = tt
 
   -- a walk that has no result
-  pub looks_unwalked : {a b : CountedState} {stands : ℕ → SymbolMatch → Type 0} (name : List ℕ) (fault : Fault) → WalksChain stands 12 (match_bytes wanted) walk a b (Err fault)
+  pub looks_unwalked : {a b : CountedState} {is_at : ℕ → SymbolMatch → Type 0} (name : List ℕ) (fault : Fault) → WalksChain is_at 12 (match_bytes wanted) walk a b (Err fault)
       → LooksAfter file wanted 12 (before * record_cost wanted.asked) looked name a b (Err fault)
-  looks_unwalked {stands = stands} name fault walks = record {
+  looks_unwalked {is_at = is_at} name fault walks = record {
     spent = walk_bytes 12 walk.read walk.tried (match_bytes wanted);
     costs = walks.costs;
     within = omega (arith, least);
     tells = tells fault walks.gives;
   }
     where
-      tells : (fault : Fault) → GivesWalked stands walk (Err fault) → ReturnsLookup file wanted.asked name looked (Err fault)
+      tells : (fault : Fault) → GivesWalked is_at walk (Err fault) → ReturnsLookup file wanted.asked name looked (Err fault)
       tells (Refused refusal) gives = λ other. ap (λ (l : LoaderLookup). l.lookup.answer) (by_refused file told wanted.asked before walk refusal (gives other))
       tells (Source fault at) gives = tt
 
-  pub looks_walked : {a b c : CountedState} {stands : ℕ → SymbolMatch → Type 0} (name : List ℕ) (w : ChainResult) (result : Result SymbolLookup Fault) → WalksChain stands 12 (match_bytes wanted) walk a b (Ok w)
+  pub looks_walked : {a b c : CountedState} {is_at : ℕ → SymbolMatch → Type 0} (name : List ℕ) (w : ChainResult) (result : Result SymbolLookup Fault) → WalksChain is_at 12 (match_bytes wanted) walk a b (Ok w)
       → LooksAfter file wanted 0 asked_before looked name b c result → LooksAfter file wanted 12 (before * record_cost wanted.asked) looked name a c result
   looks_walked name w result walks looks =
       looks_then (walk_bytes 12 walk.read walk.tried (match_bytes wanted)) 12 (before * record_cost wanted.asked) 0 asked_before (omega arith) walks.costs looks
@@ -264,6 +264,6 @@ module _ (file : List ℕ) (headers : ℕ) (wanted : SymbolQuery) where
 
 -- the walk for the symbol that matches, as it is made
 pub walks_as :
-    {a b : CountedState} {stands : ℕ → SymbolMatch → Type 0} (file : List ℕ) (told : IsScopeOf) (wanted : SymbolQuery) (is_wanted : ℕ → Bool) (cost : ℕ) (result : Result ChainResult Fault)
-    → WalksChain stands 12 cost (walked_in file told wanted.name (answers file told.symbols wanted is_wanted)) a b result → WalksChain stands 12 cost (walk_in file told wanted is_wanted) a b result
+    {a b : CountedState} {is_at : ℕ → SymbolMatch → Type 0} (file : List ℕ) (told : IsScopeOf) (wanted : SymbolQuery) (is_wanted : ℕ → Bool) (cost : ℕ) (result : Result ChainResult Fault)
+    → WalksChain is_at 12 cost (walked_in file told wanted.name (answers file told.symbols wanted is_wanted)) a b result → WalksChain is_at 12 cost (walk_in file told wanted is_wanted) a b result
 walks_as file told wanted is_wanted cost result walks = rw (walk_in_is file told wanted is_wanted) walks

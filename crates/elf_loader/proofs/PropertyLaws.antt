@@ -125,20 +125,20 @@ module _ (file : List ℕ) (at size : ℕ) where
     pub left_more : (property : Property) (n next : ℕ) (now : Option ℕ) → LeftOf file at size done found
         → next_property (slice file (at + done) (size - done)) ≡ OneProperty property n → n ≤ size - done → 0 < n → next ≡ done + n → now ≡ found_after found property
         → LeftOf file at size next now
-    left_more property n next now (zero, few, told) stands fits some is_next is_now = absurd (omega arith)
-    left_more property n next now (suc most, few, told) stands fits some is_next is_now =
+    left_more property n next now (zero, few, told) is_at fits some is_next is_now = absurd (omega arith)
+    left_more property n next now (suc most, few, told) is_at fits some is_next is_now =
         let rest = slice-rest file (at + done) (size - done) n fits in
         let place : at + done + n ≡ at + next = omega arith in
         let count : size - done - n ≡ size - next = omega arith in
-        let step = ap (features_after at found) (from_one most done (slice file (at + done) (size - done)) property n stands) in
+        let step = ap (features_after at found) (from_one most done (slice file (at + done) (size - done)) property n is_at) in
         let then = after_step at found property (properties_from most (done + n) (drop n (slice file (at + done) (size - done)))) in
         (most, omega arith, told ∙ (step ∙ (then ∙ rw (rest, place, count, is_next, is_now) refl)))
 
     -- there is no whole one
     pub left_cut : LeftOf file at size done found → next_property (slice file (at + done) (size - done)) ≡ NoProperty
         → features_in (record { place = at; bytes = slice file at size }) ≡ Err (record { at = at + done; cause = NoteCut })
-    left_cut (zero, few, told) stands = absurd (omega arith)
-    left_cut (suc most, few, told) stands = told ∙ ap (features_after at found) (from_none most done (slice file (at + done) (size - done)) stands)
+    left_cut (zero, few, told) is_at = absurd (omega arith)
+    left_cut (suc most, few, told) is_at = told ∙ ap (features_after at found) (from_none most done (slice file (at + done) (size - done)) is_at)
 
   ends : (rest : List ℕ) → length rest ≡ 0 → next_property rest ≡ ListEnds
   unfolding next_property

@@ -79,18 +79,18 @@ shown_bytes (Ok (ShownWhole bytes)) = bytes
 shown_bytes (Ok (ShownCut bytes)) = bytes
 shown_bytes (Err cause) = []
 
-slice-stands : (file : List ℕ) (at size off n : ℕ) → off + n ≤ length (slice file at size) → IsNameBytesAt file (at + off) (slice (slice file at size) off n)
-slice-stands file at size off n fits =
+slice-is_at : (file : List ℕ) (at size off n : ℕ) → off + n ≤ length (slice file at size) → IsNameBytesAt file (at + off) (slice (slice file at size) off n)
+slice-is_at file at size off n fits =
     let few = length-take size (drop at file) in
     let within : length (slice file at size) ≤ size = omega (arith, few) in
     let same : slice (slice file at size) off n ≡ slice file (at + off) n = slice-slice file at size off n (omega (arith, fits, within)) in
     let long : length (slice (slice file at size) off n) ≡ n = slice-size (slice file at size) off n fits in
     ap (slice file (at + off)) long ∙ sym same
 
-shown-stands :
+shown-is_at :
     (file : List ℕ) (at size off cap : ℕ) (name : DisplayedName) → shown (slice file at size) off cap ≡ Ok name
     → IsNameBytesAt file (at + off) (shown_bytes (Ok name)) × (off ≤ size)
-shown-stands file at size off cap name told = go (view (slice file at size) off cap)
+shown-is_at file at size off cap name told = go (view (slice file at size) off cap)
   where
     table : List ℕ
     table = slice file at size
@@ -99,7 +99,7 @@ shown-stands file at size off cap name told = go (view (slice file at size) off 
     few = let l = length-take size (drop at file) in omega (arith, l)
 
     so : (bytes : List ℕ) → bytes ≡ shown_bytes (Ok name) → IsNameBytesAt file (at + off) bytes → off ≤ size → IsNameBytesAt file (at + off) (shown_bytes (Ok name)) × (off ≤ size)
-    so bytes is stands inside = (subst (IsNameBytesAt file (at + off)) is stands, inside)
+    so bytes is is_at inside = (subst (IsNameBytesAt file (at + off)) is is_at, inside)
 
     go : View table off cap → IsNameBytesAt file (at + off) (shown_bytes (Ok name)) × (off ≤ size)
     go (is_empty none e) = let zero = none.1 in so [] (ap shown_bytes (sym e ∙ told)) refl (omega (arith, zero))
@@ -110,20 +110,20 @@ shown-stands file at size off cap name told = go (view (slice file at size) off 
         let l = length-take (cap + 1) (drop off table) in
         let d = length-drop off table in
         let same : slice table off place ≡ take place front = sym (take-take place (cap + 1) (drop off table) (omega (arith, f.1, l))) in
-        so (slice table off place) (same ∙ ap shown_bytes (sym e ∙ told)) (slice-stands file at size off place (omega (arith, f.1, l, d, below))) (omega (arith, below, few))
+        so (slice table off place) (same ∙ ap shown_bytes (sym e ∙ told)) (slice-is_at file at size off place (omega (arith, f.1, l, d, below))) (omega (arith, below, few))
     go (is_cut below none e) =
-        so (slice table off cap) (ap shown_bytes (sym e ∙ told)) (slice-stands file at size off cap (omega (arith, below))) (omega (arith, below, few))
+        so (slice table off cap) (ap shown_bytes (sym e ∙ told)) (slice-is_at file at size off cap (omega (arith, below))) (omega (arith, below, few))
     go (is_unended below end none e) = let no = sym e ∙ told in absurd (cc)
 
 -- if the strings end below 2^64, the name's offset fits into 64 bits
-pub stands-there :
+pub is_at-there :
     (file : List ℕ) (strings : StringTableRange) (off cap at : ℕ) (name : DisplayedName) → shown (strings_in file strings) off cap ≡ Ok name
     → strings.at + strings.size < 2 ^ 64 → at ≡ min (strings.at + off) (2 ^ 64 - 1) → IsNameBytesAt file at (shown_bytes (Ok name))
-stands-there file strings off cap at name told ends is =
-    let stands = shown-stands file strings.at strings.size off cap name told in
-    let inside = stands.1 in
+is_at-there file strings off cap at name told ends is =
+    let is_at = shown-is_at file strings.at strings.size off cap name told in
+    let inside = is_at.1 in
     let here : strings.at + off ≡ at = omega (arith, inside, ends, is) in
-    subst (λ (n : ℕ). IsNameBytesAt file n (shown_bytes (Ok name))) here stands.0
+    subst (λ (n : ℕ). IsNameBytesAt file n (shown_bytes (Ok name))) here is_at.0
 
 -- its name is read, and is there
 pub name-tells :
@@ -135,12 +135,12 @@ pub name-tells :
 name-tells file scope words y at naming left a b c name by Whole p pays reads ends is = (
   CallReads-then _ (omega arith) p.3 pays,
   λ walked. told-shown file scope words y walked naming (strings_in file by.names) p.0 (ShownWhole name) p.1 (let e = p.2.name in rw e at reads),
-  stands-there file by.names by.«record».name TOLD_BYTES at (ShownWhole name) reads ends is,
+  is_at-there file by.names by.«record».name TOLD_BYTES at (ShownWhole name) reads ends is,
 )
 name-tells file scope words y at naming left a b c name by Cut p pays reads ends is = (
   CallReads-then _ (omega arith) p.3 pays,
   λ walked. told-shown file scope words y walked naming (strings_in file by.names) p.0 (ShownCut name) p.1 (let e = p.2.name in rw e at reads),
-  stands-there file by.names by.«record».name TOLD_BYTES at (ShownCut name) reads ends is,
+  is_at-there file by.names by.«record».name TOLD_BYTES at (ShownCut name) reads ends is,
 )
 
 -- or it is not

@@ -54,4 +54,4 @@ pub record FindsVersion {X : Type 0} (version : X → Option FoundVersion) (file
   pub costs : CallReads old new (fault_of_result result) (records * 28 + cost_where is_named parsed_member_bytes)
   pub spends : (walked : ChainResult) (before : ℕ) → (asked_name asked ≡ None → before ≡ 0) → LookupSpends (found_in file scope asked before y walked words) walked (before + records) is_named
   pub finds : (walked : ChainResult) (before : ℕ) → (asked_name asked ≡ None → before ≡ 0) → IsVersionFound version scope asked y told walked (found_in file scope asked before y walked words) result
-  pub stands : IfOk result (λ found. IfSome (version found) (λ is. IsRelocationReported file told is.name_at is.name))
+  pub is_at : IfOk result (λ found. IfSome (version found) (λ is. IsRelocationReported file told is.name_at is.name))

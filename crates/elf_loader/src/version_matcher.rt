@@ -31,7 +31,7 @@ impl<'a> Matcher for VersionMatcher<'a> {
 
     ghost cost = { λ t. 26 + pad64 (length t.wanted.now.name.now + 1) };
 
-    ghost stands = { λ t file. IsSymbolWithVersym file t.symbols.now };
+    ghost is_at = { λ t file. IsSymbolWithVersym file t.symbols.now };
 
     ghost lies = { λ t size.
         DynamicSymbolsInBounds size t.symbols.now × (length t.wanted.now.name.now ≤ 4096) };

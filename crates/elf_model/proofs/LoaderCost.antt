@@ -55,10 +55,10 @@ module _ (file : List ℕ) where
   count_meetings strings [] others = omega arith
   count_meetings strings (met ∷ mets) others = omega (arith, count_meetings strings mets others)
 
-  count_end : (stands : Bool) (cut : Option Refusal) (others : List VersionRecordRead) (met most : ℕ) → met ≤ most → (stands ≡ true → met < most)
-      → met + count_of (end_reading stands cut ++ others) ≤ most + count_of others
+  count_end : (is_there : Bool) (cut : Option Refusal) (others : List VersionRecordRead) (met most : ℕ) → met ≤ most → (is_there ≡ true → met < most)
+      → met + count_of (end_reading is_there cut ++ others) ≤ most + count_of others
   unfolding count_of
-  count_end stands None others met most le lt = omega arith
+  count_end is_there None others met most le lt = omega arith
   count_end true (Some refusal) others met most le lt = let low = lt refl in omega arith
   count_end false (Some refusal) others met most le lt = omega arith
 
@@ -74,15 +74,15 @@ module _ (file : List ℕ) where
       let count = length versions.met in
       let most = records_are_bounded table.kind file table.head table.place table.size in
       let others = readings file tables in
-      let stands = has_record table count (position_after file table count) in
-      let all = count_meetings table.strings versions.met (end_reading stands versions.cut ++ others) in
-      let ends = count_end stands versions.cut others count (max_records table.kind table.size) most
+      let is_there = has_record table count (position_after file table count) in
+      let all = count_meetings table.strings versions.met (end_reading is_there versions.cut ++ others) in
+      let ends = count_end is_there versions.cut others count (max_records table.kind table.size) most
       (λ h. record_below table count (position_after file table count) h) in
       let few = readings_few tables in
       omega arith
 
 -- what a lookup has read is bounded by a number of bytes
-record IsSmallFolder (size : ℕ) (loader : LoaderLookup) : Type 0 where
+record IsFewReads (size : ℕ) (loader : LoaderLookup) : Type 0 where
   few_tried : loader.lookup.compared ≤ loader.chain_words
   few_words : 4 * loader.chain_words ≤ size
   few_records : loader.records ≤ size / 8
@@ -120,30 +120,30 @@ module _ (file : List ℕ) (scope : LookupTables) where
       rw (k, walk_in) (record { few_tried = omega arith; few_words = omega arith })
 
   told_few : (words : VersymTable) (y size : ℕ) (walked : ChainResult) (naming : NumberNameSource) → IsShort size walked → naming.read ≤ size / 8
-      → IsSmallFolder size (named_by_record file scope words y walked naming)
+      → IsFewReads size (named_by_record file scope words y walked naming)
   unfolding named_by_record
   told_few words y size walked naming short few = go naming.found refl
     where
-      go : (found : Option (List ℕ × VisitedRecord)) → naming.found ≡ found → IsSmallFolder size (named_by_record file scope words y walked naming)
+      go : (found : Option (List ℕ × VisitedRecord)) → naming.found ≡ found → IsFewReads size (named_by_record file scope words y walked naming)
       go (Some found) f = named (shown found.0 (name_index file found.1) TOLD_BYTES) refl
         where
-          named : (name : Result DisplayedName Cause) → shown found.0 (name_index file found.1) TOLD_BYTES ≡ name → IsSmallFolder size (named_by_record file scope words y walked naming)
+          named : (name : Result DisplayedName Cause) → shown found.0 (name_index file found.1) TOLD_BYTES ≡ name → IsFewReads size (named_by_record file scope words y walked naming)
           named (Ok name) n = rw (f, n, named_by_record) (record { few_tried = short.few_tried; few_words = short.few_words; few_records = few })
           named (Err cause) n = rw (f, n, named_by_record) (record { few_tried = short.few_tried; few_words = short.few_words; few_records = few })
       go None f = unnamed naming.refused refl
         where
-          unnamed : (refused : Option Refusal) → naming.refused ≡ refused → IsSmallFolder size (named_by_record file scope words y walked naming)
+          unnamed : (refused : Option Refusal) → naming.refused ≡ refused → IsFewReads size (named_by_record file scope words y walked naming)
           unnamed (Some refusal) r = rw (f, r, named_by_record) (record { few_tried = short.few_tried; few_words = short.few_words; few_records = few })
           unnamed None r = rw (f, r, named_by_record) (record { few_tried = short.few_tried; few_words = short.few_words; few_records = few })
 
   found_few : (asked : VersionQuery) (records y size : ℕ) (walked : ChainResult) (words : Option VersymTable) → IsShort size walked → records ≤ size / 8
-      → max_records_of scope.symbols.records ≤ size / 8 → IsSmallFolder size (found_in file scope asked records y walked words)
+      → max_records_of scope.symbols.records ≤ size / 8 → IsFewReads size (found_in file scope asked records y walked words)
   unfolding found_in
   found_few asked records y size walked None short few most =
       record { few_tried = short.few_tried; few_words = short.few_words; few_records = few }
   found_few asked records y size walked (Some words) short few most = go (asked_name asked) refl
     where
-      go : (name : Option (List ℕ)) → asked_name asked ≡ name → IsSmallFolder size (found_in file scope asked records y walked (Some words))
+      go : (name : Option (List ℕ)) → asked_name asked ≡ name → IsFewReads size (found_in file scope asked records y walked (Some words))
       go (Some version) n = rw (n, found_in) (record { few_tried = short.few_tried; few_words = short.few_words; few_records = few })
       go None n =
           elim (cases_Bool (nat_lt (number_in (versym file (versym_at words y))) 2)) [
@@ -156,11 +156,11 @@ module _ (file : List ℕ) (scope : LookupTables) where
           ]
 
   looked_few : (asked : VersionQuery) (records size : ℕ) (walked : ChainResult) → IsShort size walked → records ≤ size / 8
-      → max_records_of scope.symbols.records ≤ size / 8 → IsSmallFolder size (looked_by file scope asked records walked)
+      → max_records_of scope.symbols.records ≤ size / 8 → IsFewReads size (looked_by file scope asked records walked)
   unfolding looked_by
   looked_few asked records size walked short few most = go walked.answer refl
     where
-      go : (answer : Result (Option ℕ) Refusal) → walked.answer ≡ answer → IsSmallFolder size (looked_by file scope asked records walked)
+      go : (answer : Result (Option ℕ) Refusal) → walked.answer ≡ answer → IsFewReads size (looked_by file scope asked records walked)
       go (Err refusal) a = rw (a, looked_by) (record { few_tried = short.few_tried; few_words = short.few_words; few_records = few })
       go (Ok None) a = rw (a, looked_by) (record { few_tried = short.few_tried; few_words = short.few_words; few_records = few })
       go (Ok (Some y)) a = rw (a, looked_by) (found_few asked records y size walked scope.symbols.words short few most)
@@ -180,12 +180,12 @@ module _ (file : List ℕ) (scope : LookupTables) where
               let all = readings_few file scope.symbols.records in
               rw (n, w, version_indices) (omega arith)
 
-  loaded_few : (wanted : SymbolQuery) (size : ℕ) → IsInside size scope → IsSmallFolder size (loaded_in file scope wanted)
+  loaded_few : (wanted : SymbolQuery) (size : ℕ) → IsInside size scope → IsFewReads size (loaded_in file scope wanted)
   unfolding loaded_in
   loaded_few wanted size inside = go (first_refusal (counts_check file scope ∷ [])) (version_indices file scope wanted.asked).refused refl refl
     where
       go : (shape refused : Option Refusal) → first_refusal (counts_check file scope ∷ []) ≡ shape
-          → (version_indices file scope wanted.asked).refused ≡ refused → IsSmallFolder size (loaded_in file scope wanted)
+          → (version_indices file scope wanted.asked).refused ≡ refused → IsFewReads size (loaded_in file scope wanted)
       go (Some refusal) refused s r = rw (s, loaded_in) (record { few_tried = omega arith; few_words = omega arith; few_records = omega arith })
       go None (Some refusal) s r =
           let few = numbers_few wanted.asked size inside.few_records in
@@ -195,11 +195,11 @@ module _ (file : List ℕ) (scope : LookupTables) where
           let short = walk_short wanted (λ number. is_among number (version_indices file scope wanted.asked).numbers) size _ refl inside.table_inside s in
           rw (s, r, loaded_in) (looked_few wanted.asked (version_indices file scope wanted.asked).read size _ short few inside.few_records)
 
-looked_up_few : (file : List ℕ) (headers : ℕ) (wanted : SymbolQuery) → IsSmallFolder (length file) (loader_looked file headers wanted)
+looked_up_few : (file : List ℕ) (headers : ℕ) (wanted : SymbolQuery) → IsFewReads (length file) (loader_looked file headers wanted)
 unfolding loader_looked
 looked_up_few file headers wanted = go (lookup_tables_of file headers) refl
   where
-    go : (scope : Result LookupTables Refusal) → lookup_tables_of file headers ≡ scope → IsSmallFolder (length file) (loader_looked file headers wanted)
+    go : (scope : Result LookupTables Refusal) → lookup_tables_of file headers ≡ scope → IsFewReads (length file) (loader_looked file headers wanted)
     go (Err refusal) s = rw (s, loader_looked) (record { few_tried = omega arith; few_words = omega arith; few_records = omega arith })
     go (Ok scope) s = rw (s, loader_looked) (loaded_few file scope wanted (length file) (scope_inside file headers scope s))
 

@@ -27,8 +27,8 @@ one_name table index a b (inr ha) (inl hb) = let i = named-inside table index b 
 one_name table index a b (inr ha) (inr hb) = ha.1 ∙ sym hb.1
 
 -- a prefix that is a name, a NUL and more has the name at its start
-stands-front : (bytes name rest : List ℕ) (cap : ℕ) → take (cap + 1) bytes ≡ name ++ 0 ∷ rest → take (length (name ++ 0 ∷ [])) bytes ≡ name ++ 0 ∷ []
-stands-front bytes name rest cap e =
+is_there-front : (bytes name rest : List ℕ) (cap : ℕ) → take (cap + 1) bytes ≡ name ++ 0 ∷ rest → take (length (name ++ 0 ∷ [])) bytes ≡ name ++ 0 ∷ []
+is_there-front bytes name rest cap e =
     let n : ℕ = length (name ++ 0 ∷ []) in
     let l = ap length e in
     let short : n ≤ cap + 1 = omega (arith, length-take (cap + 1) bytes, length-append name (0 ∷ rest), length-append name (0 ∷ [])) in
@@ -42,7 +42,7 @@ front-named table index cap place h =
     let few = free-take front place (omega arith) in
     let parts = split_at_nul front (omega arith) in
     let there = rw (f.0) at parts in (
-      (free-none (take place front) few, stands-front (drop index table) (take place front) (drop (place + 1) front) cap there),
+      (free-none (take place front) few, is_there-front (drop index table) (take place front) (drop (place + 1) front) cap there),
       omega (arith, length-take place front, length-take (cap + 1) (drop index table)),
     )
 

@@ -28,9 +28,9 @@ no-rows-stand : (a place : ℕ) (table : List ℕ) → All (IsNoteInTable a tabl
 no-rows-stand a place table = rw (rows-nil a place) (All-nil (IsNoteInTable a table))
 
 -- what is found is in the table
-row-stands : (a place : ℕ) (table : List ℕ) → place ≤ length table → 12 ≤ length (drop place table) → first_end a (drop place table) ≤ length (drop place table)
+row-is_at : (a place : ℕ) (table : List ℕ) → place ≤ length table → 12 ≤ length (drop place table) → first_end a (drop place table) ≤ length (drop place table)
     → IsNoteInTable a table (row_of a place (first_note a (drop place table)))
-row-stands a place table i h l =
+row-is_at a place table i h l =
     let rest : List ℕ = drop place table in
     let note : Note = first_note a rest in
     let end : ℕ = first_end a rest in
@@ -57,7 +57,7 @@ rows-found a place size table i h l e more =
     let w : NoteScan = walk a (place + size) (drop size (drop place table)) in
     rw (walk-found a place (drop place table) note size e)
     (rw (rows-cons a place note w.notes)
-    (All-cons (IsNoteInTable a table) (row_of a place note) (note_rows a (place + padded_size a note) w.notes) (row-stands a place table i h l) more))
+    (All-cons (IsNoteInTable a table) (row_of a place note) (note_rows a (place + padded_size a note) w.notes) (row-is_at a place table i h l) more))
 
 rows-same : (a at n m : ℕ) (table xs ys : List ℕ) → n ≡ m → xs ≡ ys → All (IsNoteInTable a table) (note_rows a m (walk a at ys).notes)
     → All (IsNoteInTable a table) (note_rows a n (walk a at xs).notes)

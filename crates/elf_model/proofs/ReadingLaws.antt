@@ -11,11 +11,11 @@ abbrev visited_of : Versions → List VisitedRecord
 visited_of versions = versions.met
 
 -- if there is a record, a walk continues there
-pub stands-next :
+pub is_there-next :
     (file : List ℕ) (table : VersionRecordTable) (done : ℕ) (stand : RecordCursorState) → position_after file table done ≡ Some stand
     → position_after file table (suc done) ≡ next_position file table.place stand
 unfolding position_after
-stands-next file table done stand is = rw is refl
+is_there-next file table done stand is = rw is refl
 
 -- the position of a walk after this many records
 abbrev StandsAtVisited : List ℕ → VersionRecordTable → ℕ → VisitedRecord → Type 0
@@ -26,16 +26,16 @@ none-met : (file : List ℕ) (table : VersionRecordTable) (done : ℕ) (before :
 none-met file table done [] met others none = absurd (cc)
 none-met file table done (first ∷ before) met others none = absurd (cc)
 
-stands-from :
+is_there-from :
     (file : List ℕ) (table : VersionRecordTable) (most done : ℕ) (stand : Option RecordCursorState) (before : List VisitedRecord) (met : VisitedRecord) (others : List VisitedRecord)
     → position_after file table done ≡ stand → (visited_from file table.place table.size stand most).met ≡ before ++ met ∷ others
     → StandsAtVisited file table (done + length before) met
-stands-from file table most done None before met others is all =
+is_there-from file table most done None before met others is all =
     none-met file table (done + length before) before met others (sym (ap visited_of (met-ended file table.place table.size most)) ∙ all)
-stands-from file table zero done (Some stand) before met others is all =
+is_there-from file table zero done (Some stand) before met others is all =
     none-met file table (done + length before) before met others (sym (ap visited_of (met-most file table.place table.size stand)) ∙ all)
-stands-from file table (suc most) done (Some stand) before met others is all =
-    go (λ rest. stands-from file table most (suc done) (next_position file table.place stand) rest met others (stands-next file table done stand is))
+is_there-from file table (suc most) done (Some stand) before met others is all =
+    go (λ rest. is_there-from file table most (suc done) (next_position file table.place stand) rest met others (is_there-next file table done stand is))
     (first_refusal (record_checks file table.place table.size stand)) refl before all
   where
     go : ((rest : List VisitedRecord) → (visited_from file table.place table.size (next_position file table.place stand) most).met ≡ rest ++ met ∷ others
@@ -60,7 +60,7 @@ unfolding versions_in position_after
 walks_stand_at_records file table before met others all =
     let count : 0 + length before ≡ length before = omega arith in
     rw count at
-    (stands-from file table (max_records table.kind table.size) 0 (first_position table.kind table.head table.size) before met others refl all)
+    (is_there-from file table (max_records table.kind table.size) 0 (first_position table.kind table.head table.size) before met others refl all)
 
 -- a walk from its position ends where it did
 ends-from :
@@ -76,7 +76,7 @@ ends-from file table zero done (Some stand) room is =
     let full : done ≡ max_records table.kind table.size = omega (arith, room) in
     rw (met-most file table.place table.size stand, here, is) (inr (full, refl))
 ends-from file table (suc most) done (Some stand) room is =
-    go (ends-from file table most (suc done) (next_position file table.place stand) (omega (arith, room)) (stands-next file table done stand is))
+    go (ends-from file table most (suc done) (next_position file table.place stand) (omega (arith, room)) (is_there-next file table done stand is))
     (first_refusal (record_checks file table.place table.size stand)) refl
   where
     go : let later = visited_from file table.place table.size (next_position file table.place stand) most in
@@ -107,8 +107,8 @@ meetings-are strings [] others = refl
 meetings-are strings (one ∷ met) others = ap (λ (more : List VersionRecordRead). Meets strings one ∷ more) (meetings-are strings met others)
 
 -- how they end
-end-is : (stands : Bool) (cut : Option Refusal) → EndsReadings cut (end_reading stands cut)
-end-is stands None = refl
+end-is : (is_there : Bool) (cut : Option Refusal) → EndsReadings cut (end_reading is_there cut)
+end-is is_there None = refl
 end-is true (Some refusal) = inl refl
 end-is false (Some refusal) = inr refl
 
@@ -118,10 +118,10 @@ readings_are_records file = (
   refl,
   λ table others.
       let walk = records_in file table in
-      let stands = has_record table (length walk.met) (position_after file table (length walk.met)) in (
-        end_reading stands walk.cut,
-        end-is stands walk.cut,
-        meetings-are table.strings walk.met (end_reading stands walk.cut ++ readings file others),
+      let is_there = has_record table (length walk.met) (position_after file table (length walk.met)) in (
+        end_reading is_there walk.cut,
+        end-is is_there walk.cut,
+        meetings-are table.strings walk.met (end_reading is_there walk.cut ++ readings file others),
       ),
 )
 

@@ -82,9 +82,9 @@ StandsOn definition None = Unit {0}
 StandsOn definition (Some stand) = IsDefinition stand.kind ≡ definition
 
 -- a walk that is at one kind of record goes on to that kind
-along-stands : (definition : Bool) (table : ℕ) (kind : VersionKind) (place distance owner : ℕ) → IsDefinition kind ≡ definition
+along-is_at : (definition : Bool) (table : ℕ) (kind : VersionKind) (place distance owner : ℕ) → IsDefinition kind ≡ definition
     → StandsOn definition (along table kind place distance owner)
-along-stands definition table kind place distance owner is = by_end (distance == 0)
+along-is_at definition table kind place distance owner is = by_end (distance == 0)
   where
     by_end : (ends : Bool)
         → StandsOn definition (if ends then None else Some (record { kind = kind; place = place + distance; from = table + place; owner = owner }))
@@ -95,19 +95,19 @@ needs-stand : (table place distance owner files : ℕ) → StandsOn false (along
 needs-stand table place distance owner files = by_end (distance == 0)
   where
     by_end : (ends : Bool) → StandsOn false (if ends then along table File owner files 0 else along table Need place distance owner)
-    by_end true = along-stands false table File owner files 0 refl
-    by_end false = along-stands false table Need place distance owner refl
+    by_end true = along-is_at false table File owner files 0 refl
+    by_end false = along-is_at false table Need place distance owner refl
 
-behind-stands : (file : List ℕ) (table : ℕ) (stand : RecordCursorState) → StandsOn (IsDefinition stand.kind) (next_position file table stand)
+behind-is_at : (file : List ℕ) (table : ℕ) (stand : RecordCursorState) → StandsOn (IsDefinition stand.kind) (next_position file table stand)
 unfolding next_position
-behind-stands file table stand = by_kind stand.kind
+behind-is_at file table stand = by_kind stand.kind
   where
     by_kind : (kind : VersionKind) → StandsOn (IsDefinition kind) (elim kind as (λ _. Option RecordCursorState) [
       | Definition ↦ along table Definition stand.place (next_word file (visited_at table stand)) 0
       | File ↦ Some (record { kind = Need; place = stand.place + vn_aux file (table + stand.place); from = table + stand.place; owner = stand.place })
       | Need ↦ along_needs table stand.place (next_word file (visited_at table stand)) stand.owner (vn_next file (table + stand.owner))
     ])
-    by_kind Definition = along-stands true table Definition stand.place (next_word file (visited_at table stand)) 0 refl
+    by_kind Definition = along-is_at true table Definition stand.place (next_word file (visited_at table stand)) 0 refl
     by_kind File = refl
     by_kind Need = needs-stand table stand.place (next_word file (visited_at table stand)) stand.owner (vn_next file (table + stand.owner))
 
@@ -117,7 +117,7 @@ of-one-kind : (file : List ℕ) (table size most : ℕ) (stand : Option RecordCu
 of-one-kind file table size most None definition is = rw (met-ended file table size most) (All-nil _)
 of-one-kind file table size zero (Some stand) definition is = rw (met-most file table size stand) (All-nil _)
 of-one-kind file table size (suc most) (Some stand) definition is =
-    let next : StandsOn definition (next_position file table stand) = rw is at (behind-stands file table stand) in
+    let next : StandsOn definition (next_position file table stand) = rw is at (behind-is_at file table stand) in
     go (of-one-kind file table size most (next_position file table stand) definition next) (first_refusal (record_checks file table size stand)) refl
   where
     go : All (λ (m : VisitedRecord). IsDefinition m.kind ≡ definition) (visited_from file table size (next_position file table stand) most).met
@@ -128,8 +128,8 @@ of-one-kind file table size (suc most) (Some stand) definition is =
         rw (met-record file table size stand most h)
         (All-cons (λ (m : VisitedRecord). IsDefinition m.kind ≡ definition) (visited_at table stand) (visited_from file table size (next_position file table stand) most).met is more)
 
-first-stands : (kind : VersionKind) (head size : ℕ) → StandsOn (IsDefinition kind) (first_position kind head size)
-first-stands kind head size = by_size (size == 0)
+first-is_at : (kind : VersionKind) (head size : ℕ) → StandsOn (IsDefinition kind) (first_position kind head size)
+first-is_at kind head size = by_size (size == 0)
   where
     by_size : (empty : Bool) → StandsOn (IsDefinition kind) (if empty then None else Some (record { kind = kind; place = 0; from = head; owner = 0 }))
     by_size true = tt
@@ -140,7 +140,7 @@ pub table-kinds : (kind : VersionKind) (file : List ℕ) (at : ℕ)
 unfolding versions_in
 table-kinds kind file at =
     of-one-kind file (sh_offset file at) (sh_size file at) (max_records kind (sh_size file at)) (first_position kind at (sh_size file at)) (IsDefinition kind)
-    (first-stands kind at (sh_size file at))
+    (first-is_at kind at (sh_size file at))
 
 -- the strings of their names
 strings-are : (file : List ℕ) (kind other : VersionKind) → IsDefinition kind ≡ IsDefinition other → version_strings file kind ≡ version_strings file other

@@ -156,8 +156,8 @@ has_record table met (Some stand) =
 
 -- how the records of a table end, after this many are visited: they do, or the next is refused
 abbrev pub end_reading : Bool → Option Refusal → List VersionRecordRead
-end_reading stands None = []
-end_reading stands (Some refusal) = if stands then Refuses refusal ∷ [] else Misses refusal ∷ []
+end_reading is_there None = []
+end_reading is_there (Some refusal) = if is_there then Refuses refusal ∷ [] else Misses refusal ∷ []
 
 -- visited records before those after them
 unfoldable pub meetings : List ℕ → List VisitedRecord → List VersionRecordRead → List VersionRecordRead

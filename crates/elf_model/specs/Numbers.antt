@@ -244,6 +244,9 @@ R_X86_64_NONE = 0
 abbrev pub R_X86_64_RELATIVE : ℕ
 R_X86_64_RELATIVE = 8
 
+abbrev pub R_X86_64_COPY : ℕ
+R_X86_64_COPY = 5
+
 abbrev pub R_X86_64_IRELATIVE : ℕ
 R_X86_64_IRELATIVE = 37
 

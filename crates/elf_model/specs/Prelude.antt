@@ -112,7 +112,7 @@ unfoldable pub use Rattle.elf_model.specs.NeededVersions.{define_version, needed
 pub use Rattle.elf_model.specs.NoteLaws.{BeforeNulExactly, CutIsWalked, FitsOrIsCut, FittingIsWalked, IsAligned, IsNoteInTable, NoteShownCutExactly, NoteShownWholeExactly, OneListAtMost, RowsAligned, RowsStand, WalkedFits, WalkedIsCut}
 pub use Rattle.elf_model.specs.Notes.{AllPadded, CutAt, EndsInSpelling, EndsInZeros, IsNoteEncoding, NextNote, Note, NoteRow, NoteScan, Notes, OneNote, Padded, alignment_gap, are_zeros, before_nul, bytes_to_alignment, capped, descriptor_start, escaped_size, first_end, first_note, note_align, padded_size, with_note}
 unfoldable pub use Rattle.elf_model.specs.Notes.{next_note, note_rows, note_shown, walk_from, walked}
-pub use Rattle.elf_model.specs.Numbers.{DT_GNU_HASH, DT_HASH, DT_JMPREL, DT_NULL, DT_PLTREL, DT_PLTRELSZ, DT_REL, DT_RELA, DT_RELAENT, DT_RELASZ, DT_RELENT, DT_RELR, DT_RELRENT, DT_RELRSZ, DT_RELSZ, DT_RPATH, DT_RUNPATH, DT_SONAME, DT_STRSZ, DT_STRTAB, DT_SYMTAB, DT_VERDEF, DT_VERNEED, DT_VERSYM, EM_X86_64, ET_REL, PT_DYNAMIC, PT_NOTE, R_X86_64_NONE, SHN_ABS, SHN_COMMON, SHN_LORESERVE, SHN_UNDEF, SHT_DYNAMIC, SHT_DYNSYM, SHT_GNU_HASH, SHT_GNU_VERDEF, SHT_GNU_VERNEED, SHT_GNU_VERSYM, SHT_HASH, SHT_NOTE, SHT_REL, SHT_RELA, SHT_RELR, SHT_STRTAB, STB_GLOBAL, STB_GNU_UNIQUE, STB_WEAK, STT_COMMON, STT_FUNC, STT_GNU_IFUNC, STT_NOTYPE, STT_OBJECT, STT_TLS, STV_DEFAULT, STV_PROTECTED}
+pub use Rattle.elf_model.specs.Numbers.{DT_GNU_HASH, DT_HASH, DT_JMPREL, DT_NULL, DT_PLTREL, DT_PLTRELSZ, DT_REL, DT_RELA, DT_RELAENT, DT_RELASZ, DT_RELENT, DT_RELR, DT_RELRENT, DT_RELRSZ, DT_RELSZ, DT_RPATH, DT_RUNPATH, DT_SONAME, DT_STRSZ, DT_STRTAB, DT_SYMTAB, DT_VERDEF, DT_VERNEED, DT_VERSYM, EM_X86_64, ET_REL, PT_DYNAMIC, PT_NOTE, R_X86_64_COPY, R_X86_64_NONE, SHN_ABS, SHN_COMMON, SHN_LORESERVE, SHN_UNDEF, SHT_DYNAMIC, SHT_DYNSYM, SHT_GNU_HASH, SHT_GNU_VERDEF, SHT_GNU_VERNEED, SHT_GNU_VERSYM, SHT_HASH, SHT_NOTE, SHT_REL, SHT_RELA, SHT_RELR, SHT_STRTAB, STB_GLOBAL, STB_GNU_UNIQUE, STB_WEAK, STT_COMMON, STT_FUNC, STT_GNU_IFUNC, STT_NOTYPE, STT_OBJECT, STT_TLS, STV_DEFAULT, STV_PROTECTED}
 pub use Rattle.elf_model.specs.OverlapLaws.{NoPageIsShared, OverlapIsListedElsewhere, OverlapIsListedSecond}
 pub use Rattle.elf_model.specs.Overlaps.{first_page, page_behind, takes_memory}
 unfoldable pub use Rattle.elf_model.specs.Overlaps.{loads_from, overlap_checks, overlaps_from}

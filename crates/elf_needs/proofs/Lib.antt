@@ -4,7 +4,7 @@ pub mod PathLaws
 pub mod RootLaws
 pub mod OnSearch
 pub mod OnTrees
-pub mod FolderLaws
+pub mod DirectoryLaws
 pub mod BindLaws
 pub mod UnusedLaws
 pub mod NeedWalkLaws

@@ -36,8 +36,8 @@ is_long path long =
 behind_none : (n : ℕ) → MOST_PATH_BYTES < 0 + n → MOST_PATH_BYTES < n
 behind_none n long = omega (arith, long)
 
-long_path : (folder name : List ℕ) → MOST_PATH_BYTES < length folder → MOST_PATH_BYTES < length (path_in folder name)
-long_path folder name long = rw (length-append folder (after_dir folder ++ name)) (omega (arith, long))
+long_path : (directory name : List ℕ) → MOST_PATH_BYTES < length directory → MOST_PATH_BYTES < length (path_in directory name)
+long_path directory name long = rw (length-append directory (after_dir directory ++ name)) (omega (arith, long))
 
 pub made_of : (new text : List ℕ) (r : Bool) → (r ≡ true → length new ≤ MOST_PATH_BYTES) → PutsText [] new (Some text) r → IsMade new (if_short text) r
 made_of new text true short (t, is, put) =
@@ -46,25 +46,25 @@ made_of new text true short (t, is, put) =
 made_of new text false short long = is_long text (behind_none (length text) (long text refl))
 
 -- by the directory that an entry names
-by_folder : (root name : List ℕ) (origin : Option (List ℕ)) (entry : List ℕ) → entry_path root name origin entry ≡ if_short (path_in (root_before root entry ++ dir_of_entry origin entry) name)
+by_directory : (root name : List ℕ) (origin : Option (List ℕ)) (entry : List ℕ) → entry_path root name origin entry ≡ if_short (path_in (root_before root entry ++ dir_of_entry origin entry) name)
 unfolding entry_path
-by_folder root name origin entry = refl
+by_directory root name origin entry = refl
 
 module _ (root name : List ℕ) (origin : Option (List ℕ)) (entry : List ℕ) where
   -- a path that is too long
   too_long : MOST_PATH_BYTES < length (root_before root entry) + length (dir_of_entry origin entry) → entry_path root name origin entry ≡ None
   too_long long =
       let before = length-append (root_before root entry) (dir_of_entry origin entry) in
-      by_folder root name origin entry ∙ is_long _ (long_path (root_before root entry ++ dir_of_entry origin entry) name (omega (arith, long, before)))
+      by_directory root name origin entry ∙ is_long _ (long_path (root_before root entry ++ dir_of_entry origin entry) name (omega (arith, long, before)))
 
   pub entry_made : (mid put new : List ℕ) (r : Bool) → (r ≡ true → length new ≤ MOST_PATH_BYTES) → PutsText [] mid (Some (root_before root entry)) true
       → PutsText mid put (Some (dir_of_entry origin entry)) true → PutsText put new (Some (after_dir put ++ name)) r
       → IsMade new (entry_path root name origin entry) r
-  entry_made mid put new r short (text, is, rooted) (folder, found, behind) last =
-      let e : put ≡ root_before root entry ++ dir_of_entry origin entry = behind ∙ (ap (λ t. t ++ folder) (rooted ∙ sym (some_same is)) ∙ ap (λ t. root_before root entry ++ t) (sym (some_same found))) in
+  entry_made mid put new r short (text, is, rooted) (directory, found, behind) last =
+      let e : put ≡ root_before root entry ++ dir_of_entry origin entry = behind ∙ (ap (λ t. t ++ directory) (rooted ∙ sym (some_same is)) ∙ ap (λ t. root_before root entry ++ t) (sym (some_same found))) in
       let whole : PutsText [] new (Some (path_in put name)) r = puts_both [] put new put (after_dir put ++ name) r (put, refl, refl) last in
       let made = made_of new (path_in put name) r short whole in
-      at_made (by_folder root name origin entry ∙ ap (λ t. if_short (path_in t name)) (sym e)) r made
+      at_made (by_directory root name origin entry ∙ ap (λ t. if_short (path_in t name)) (sym e)) r made
     where
       at_made : {wanted other : Option (List ℕ)} → wanted ≡ other → (r : Bool) → IsMade new other r → IsMade new wanted r
       at_made is true made = is ∙ made

@@ -93,8 +93,8 @@ interpreter_object objects = elim objects.interpreter [
 
 -- the directory of an object: that of its path, and the current one where its path is not kept
 abbrev pub IsDirOfObject : (paths : List (List ℕ)) → Option ℕ → List ℕ → Type 0
-IsDirOfObject paths None folder = folder ≡ codes "."
-IsDirOfObject paths (Some path) folder = IsDirOf (slice_index_or paths path []) folder
+IsDirOfObject paths None directory = directory ≡ codes "."
+IsDirOfObject paths (Some path) directory = IsDirOf (slice_index_or paths path []) directory
 
 -- the object that first needed another, if one did
 abbrev pub above_of : ObjectList → KnownObject → Option KnownObject

@@ -106,12 +106,12 @@ root_before root text = if is_rooted text then root else []
 -- what separates a directory and a name in it: a slash, even if the directory ends in one; the
 -- empty directory is the current one
 unfoldable pub after_dir : List ℕ → List ℕ
-after_dir folder =
-    if length folder == 0 then codes "./" else codes "/"
+after_dir directory =
+    if length directory == 0 then codes "./" else codes "/"
 
 -- the path of a name in a directory
-abbrev pub path_in : (folder name : List ℕ) → List ℕ
-path_in folder name = folder ++ (after_dir folder ++ name)
+abbrev pub path_in : (directory name : List ℕ) → List ℕ
+path_in directory name = directory ++ (after_dir directory ++ name)
 
 -- a path that can be opened
 abbrev pub if_short : List ℕ → Option (List ℕ)
@@ -128,7 +128,7 @@ entry_paths root name origin (entry ∷ entries) = cons_option (entry_path root 
 
 -- the paths of a name in a list of directories
 abbrev pub dir_paths : (root name : List ℕ) → SearchPathText → List (List ℕ)
-dir_paths root name folders = entry_paths root name folders.origin (entries_of folders.separator folders.text)
+dir_paths root name directories = entry_paths root name directories.origin (entries_of directories.separator directories.text)
 
 -- THE ORDER. An object that needs others: its DT_RPATH and its DT_RUNPATH, if it has them, the
 -- directory that it is in, and whether its needs are not searched for in the default directories
@@ -136,23 +136,23 @@ dir_paths root name folders = entry_paths root name folders.origin (entries_of f
 pub record NeedingObject : Type 0 where
   pub rpath : Option (List ℕ)
   pub runpath : Option (List ℕ)
-  pub folder : List ℕ
+  pub directory : List ℕ
   pub nodeflib : Bool
 
 -- the directories that a text of an object gives
-abbrev pub object_dirs : (folder text : List ℕ) → FoundBy → SearchPathText
-object_dirs folder text found_by = record { text = text; separator = COLON; origin = Some folder; found_by = found_by }
+abbrev pub object_dirs : (directory text : List ℕ) → FoundBy → SearchPathText
+object_dirs directory text found_by = record { text = text; separator = COLON; origin = Some directory; found_by = found_by }
 
 -- what an object's own DT_RPATH gives: nothing if it has DT_RUNPATH
 abbrev pub rpath_of : NeedingObject → Option SearchPathText
 rpath_of needer = elim needer.runpath [
   | Some text ↦ None
-  | None ↦ option_map (λ text. object_dirs needer.folder text by.Rpath) needer.rpath
+  | None ↦ option_map (λ text. object_dirs needer.directory text by.Rpath) needer.rpath
 ]
 
 -- what its DT_RUNPATH gives
 abbrev pub runpath_of : NeedingObject → Option SearchPathText
-runpath_of needer = option_map (λ text. object_dirs needer.folder text by.Runpath) needer.runpath
+runpath_of needer = option_map (λ text. object_dirs needer.directory text by.Runpath) needer.runpath
 
 -- what DT_RPATH gives of an object, of the one that first needed it, and so on
 unfoldable pub rpath_dirs : List NeedingObject → List SearchPathText
@@ -166,8 +166,8 @@ first_runpath (needer ∷ above) = runpath_of needer
 
 -- DT_RPATH counts only if the object that needs the library has no DT_RUNPATH
 abbrev pub unless_runpath : Option SearchPathText → List SearchPathText → List SearchPathText
-unless_runpath None folders = folders
-unless_runpath (Some runpath) folders = []
+unless_runpath None directories = directories
+unless_runpath (Some runpath) directories = []
 
 -- the library path that is given: semicolons separate its directories too, and tokens are replaced
 -- in it as in a text of the program, whose directory that is
@@ -197,12 +197,12 @@ search_dirs library default needers =
     unless_runpath (first_runpath needers) (rpath_dirs needers) ++ (library ∷ cons_option (first_runpath needers) (default_dirs (default_for needers default) ∷ []))
 
 -- a path is below a directory, and below one of some
-abbrev pub is_below : (folder path : List ℕ) → Bool
-is_below folder path = starts_with nat_eq path folder && slice_index path (length folder) == PATH_SLASH
+abbrev pub is_below : (directory path : List ℕ) → Bool
+is_below directory path = starts_with nat_eq path directory && slice_index path (length directory) == PATH_SLASH
 
 unfoldable pub is_below_any : List (List ℕ) → (path : List ℕ) → Bool
 is_below_any [] path = false
-is_below_any (folder ∷ folders) path = is_below folder path || is_below_any folders path
+is_below_any (directory ∷ directories) path = is_below directory path || is_below_any directories path
 
 -- it is below one of the default directories
 abbrev pub is_below_default : (default path : List ℕ) → Bool
@@ -211,13 +211,13 @@ is_below_default default path = is_below_any (entries_of COLON default) path
 -- the paths of a name in all of them
 unfoldable pub searched_paths : (root name : List ℕ) → List SearchPathText → List (List ℕ)
 searched_paths root name [] = []
-searched_paths root name (folders ∷ others) = dir_paths root name folders ++ searched_paths root name others
+searched_paths root name (directories ∷ others) = dir_paths root name directories ++ searched_paths root name others
 
 -- the name of a library that an object needs: its tokens are replaced as in a text of the object,
 -- the first of these
 unfoldable pub replaced_name : List NeedingObject → List ℕ → List ℕ
 replaced_name [] name = name
-replaced_name (needer ∷ above) name = expanded needer.folder 0 name
+replaced_name (needer ∷ above) name = expanded needer.directory 0 name
 
 -- the paths that are tried for a name whose tokens are replaced: if it has a slash that path alone
 unfoldable pub paths_of_name : (root : List ℕ) (library : SearchPathText) (default : List ℕ) → List NeedingObject → (name : List ℕ) → List (List ℕ)
@@ -239,7 +239,7 @@ pub record LastSlash (path : List ℕ) (place : ℕ) : Type 0 where
   pub is_slash : slice_index path place ≡ PATH_SLASH
   pub none_behind : (k : ℕ) → place < k → k < length path → slice_index path k ≢ PATH_SLASH
 
-abbrev pub IsDirOf : (path folder : List ℕ) → Type 0
-IsDirOf path folder =
-    ((place : ℕ) × LastSlash path place × (folder ≡ (if place == 0 then codes "/" else take place path)))
-    ⊎ (((k : ℕ) → k < length path → slice_index path k ≢ PATH_SLASH) × (folder ≡ codes "."))
+abbrev pub IsDirOf : (path directory : List ℕ) → Type 0
+IsDirOf path directory =
+    ((place : ℕ) × LastSlash path place × (directory ≡ (if place == 0 then codes "/" else take place path)))
+    ⊎ (((k : ℕ) → k < length path → slice_index path k ≢ PATH_SLASH) × (directory ≡ codes "."))

@@ -26,14 +26,14 @@ origin_of None = None
 origin_of (Some origin) = Some origin.now
 
 abbrev pub dirs_of : SearchPathList → SearchPathText
-dirs_of folders = record { text = folders.text.now; separator = folders.separator; origin = origin_of folders.origin; found_by = folders.found_by }
+dirs_of directories = record { text = directories.text.now; separator = directories.separator; origin = origin_of directories.origin; found_by = directories.found_by }
 
 abbrev pub dirs_in : List SearchPathList → List SearchPathText
 dirs_in lists = map dirs_of lists
 
 -- objects by borrowed texts
 abbrev pub needer_of : BorrowedNeeder → NeedingObject
-needer_of needer = record { rpath = origin_of needer.rpath; runpath = origin_of needer.runpath; folder = needer.folder.now; nodeflib = needer.nodeflib }
+needer_of needer = record { rpath = origin_of needer.rpath; runpath = origin_of needer.runpath; directory = needer.directory.now; nodeflib = needer.nodeflib }
 
 abbrev pub needers_of : List BorrowedNeeder → List NeedingObject
 needers_of needers = map needer_of needers

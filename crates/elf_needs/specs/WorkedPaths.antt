@@ -4,11 +4,11 @@ use Rattle.elf_needs.specs.Searching.{NeedingObject, is_below_default, paths_tri
 
 -- an object by its directories, and where it is
 abbrev needer : Option (List ℕ) → Option (List ℕ) → List ℕ → NeedingObject
-needer rpath runpath folder = record { rpath = rpath; runpath = runpath; folder = folder; nodeflib = false }
+needer rpath runpath directory = record { rpath = rpath; runpath = runpath; directory = directory; nodeflib = false }
 
 -- one whose needs are not searched for in the default directories
 abbrev alone : Option (List ℕ) → List ℕ → NeedingObject
-alone runpath folder = record { rpath = None; runpath = runpath; folder = folder; nodeflib = true }
+alone runpath directory = record { rpath = None; runpath = runpath; directory = directory; nodeflib = true }
 
 -- a name with a slash in it is a path: that alone is tried, below another root if it begins with a
 -- slash

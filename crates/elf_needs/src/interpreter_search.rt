@@ -74,12 +74,12 @@ impl<W: Sink> DependencyWalk<'_, '_, W> {
         ensures left { self.new.search.left ≡ self.old.search.left }
         ensures below { IfSome result (λ index. let old = self.old.objects.paths in
             let path = slice_index_or old.texts name [] in
-            (if_short (root_before self.old.search.folders.root.now path ++ path)
+            (if_short (root_before self.old.search.directories.root.now path ++ path)
             ≡ Some self.new.search.path.items)
             × (self.new.objects.paths ≡ with_text old self.new.search.path.items)
             × (index ≡ length old.texts)) }
     {
-        let root = self.search.folders.root;
+        let root = self.search.directories.root;
         let name = self.objects.path(name);
         if !named_path(&mut self.search.path, root, name) {
             return None;

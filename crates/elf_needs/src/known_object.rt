@@ -175,14 +175,14 @@ impl ObjectList {
     }
 
     /// Returns the directory of an object, which replaces `$ORIGIN`.
-    pub(crate) fn folder(&self, known: &KnownObject) -> &[u8]
+    pub(crate) fn directory(&self, known: &KnownObject) -> &[u8]
         ensures { IsDirOfObject self.now.paths.texts known.now.path result.now }
     {
-        self.folder_of(known.path)
+        self.directory_of(known.path)
     }
 
     /// Returns the directory of the path at an index.
-    pub(crate) fn folder_of(&self, path: Option<u32>) -> &[u8]
+    pub(crate) fn directory_of(&self, path: Option<u32>) -> &[u8]
         ensures { IsDirOfObject self.now.paths.texts path result.now }
     {
         match path {
@@ -225,9 +225,9 @@ impl ObjectList {
     }
 
     /// Returns the directory of the program, which replaces `$ORIGIN` in a library path.
-    pub(crate) fn program_folder(&self) -> &[u8] {
+    pub(crate) fn program_directory(&self) -> &[u8] {
         match self.known.first() {
-            Some(program) => self.folder(program),
+            Some(program) => self.directory(program),
             None => b".",
         }
     }

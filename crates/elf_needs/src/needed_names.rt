@@ -43,13 +43,13 @@ impl ObjectList {
             ReplacesIn root.now self.old.paths.texts path self.old.links self.new.links index need }
     {
         let need = self.links.need(index)?;
-        let folder = within_root(root, self.folder_of(path));
+        let directory = within_root(root, self.directory_of(path));
         let text = self.links.text(need.name);
         let Some(_) = memchr(b'$', text) else {
             return None;
         };
         let mut name = CandidatePath::new();
-        if put_expanded(&mut name, text, folder) && self.links.rename(index, &name) {
+        if put_expanded(&mut name, text, directory) && self.links.rename(index, &name) {
             return None;
         }
         Some(Refusal {
@@ -61,21 +61,21 @@ impl ObjectList {
 
 /// Returns a directory, within a root if it is below that: what follows the root.
 #[tactic(auto, unfolding(crate::specs::Replaced::within_root))]
-pub(crate) fn within_root<'a>(root: &[u8], folder: &'a [u8]) -> &'a [u8]
-    ensures { result.now ≡ within_root root.now folder.now }
+pub(crate) fn within_root<'a>(root: &[u8], directory: &'a [u8]) -> &'a [u8]
+    ensures { result.now ≡ within_root root.now directory.now }
 {
-    if root.is_empty() || !folder.starts_with(root) {
-        return folder;
+    if root.is_empty() || !directory.starts_with(root) {
+        return directory;
     }
-    after_root(folder, &folder[root.len()..])
+    after_root(directory, &directory[root.len()..])
 }
 
 /// Returns a directory that begins with a root, by what follows that.
-fn after_root<'a>(folder: &'a [u8], within: &'a [u8]) -> &'a [u8]
-    ensures { result.now ≡ after_root folder.now within.now }
+fn after_root<'a>(directory: &'a [u8], within: &'a [u8]) -> &'a [u8]
+    ensures { result.now ≡ after_root directory.now within.now }
 {
     if within.is_empty() {
         return b"/";
     }
-    if is_rooted(within) { within } else { folder }
+    if is_rooted(within) { within } else { directory }
 }

@@ -18,19 +18,19 @@ pub struct NeedingObject<'a> {
     /// Its DT_RUNPATH.
     pub runpath: Option<&'a [u8]>,
     /// The directory that it is in.
-    pub folder: &'a [u8],
+    pub directory: &'a [u8],
     /// Whether its needs have no default directories: DF_1_NODEFLIB.
     pub nodeflib: bool,
 }
 
 impl<'a> Default for NeedingObject<'a> {
-    ghost is_default = { λ n. n.folder.now ≡ [] };
+    ghost is_default = { λ n. n.directory.now ≡ [] };
 
     fn default() -> Self {
         NeedingObject {
             rpath: None,
             runpath: None,
-            folder: b"",
+            directory: b"",
             nodeflib: false,
         }
     }
@@ -45,12 +45,12 @@ fn object_dirs<'a>(
     text: &'a [u8],
     found_by: FoundBy,
 ) -> SearchPathList<'a>
-    ensures { dirs_of result ≡ object_dirs needer.now.folder.now text.now found_by }
+    ensures { dirs_of result ≡ object_dirs needer.now.directory.now text.now found_by }
 {
     SearchPathList {
         text,
         separator: b':',
-        origin: Some(needer.folder),
+        origin: Some(needer.directory),
         found_by,
     }
 }

@@ -66,7 +66,7 @@ impl<W: Sink> DependencyWalk<'_, '_, W> {
         ensures left { self.new.search.left ≡ self.old.search.left }
     {
         let needs_end = self.objects.links.needs();
-        let root = self.search.folders.root;
+        let root = self.search.directories.root;
         match self.objects.replace_names(needs, needs_end, path, root) {
             None => ObjectReport {
                 state: ObjectState::Found,

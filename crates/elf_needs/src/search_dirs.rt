@@ -33,7 +33,7 @@ pub struct SearchDirs<'a> {
 #[derive(Drop)]
 pub(crate) struct Search<'s> {
     /// The given directories.
-    pub folders: SearchDirs<'s>,
+    pub directories: SearchDirs<'s>,
     /// The machine.
     pub machine: u16,
     /// The path that is tried.
@@ -73,7 +73,7 @@ impl Search<'_> {
             return self.try_path(system, name);
         }
         let mut lists = no_lists();
-        gather(objects, needer, &self.folders, &mut lists);
+        gather(objects, needer, &self.directories, &mut lists);
         self.find_in(system, needer, name, &lists)
     }
 
@@ -95,7 +95,7 @@ impl Search<'_> {
             system.old.closed.asked system.new.closed.asked result }
         ensures few { self.new.tries.left ≤ self.old.tries.left }
     {
-        let root = self.folders.root;
+        let root = self.directories.root;
         let last = lists.len().saturating_sub(1);
         let first = LibrarySearch::new(root, name, &lists[..last]);
         if let Some(found) = self.try_all(system, first)? {
@@ -133,7 +133,7 @@ impl Search<'_> {
         match system.path_in_cache(&mut self.left, name, &mut path) {
             Ok(true)
                 if needer.links.has_nodeflib()
-                    && is_below_default(self.folders.default, path.bytes()) => { Ok(None) }
+                    && is_below_default(self.directories.default, path.bytes()) => { Ok(None) }
             Ok(true) => {
                 self.found_by = FoundBy::Cache;
                 self.try_path(system, path.bytes())
@@ -162,7 +162,7 @@ impl Search<'_> {
         if !self.tries.take() {
             return Ok(None);
         }
-        if !named_path(&mut self.path, self.folders.root, path) {
+        if !named_path(&mut self.path, self.directories.root, path) {
             return Ok(None);
         }
         self.try_candidate(system)
@@ -224,18 +224,18 @@ fn no_lists<'a>() -> SearchPaths<'a> {
 fn gather<'a>(
     objects: &'a ObjectList,
     needer: &KnownObject,
-    folders: &SearchDirs<'a>,
+    directories: &SearchDirs<'a>,
     lists: &mut SearchPaths<'a>,
 ) {
     let mut chain = [NeedingObject::default(); MOST_OBJECTS];
     let count = put_chain(objects, needer, &mut chain);
     let library = SearchPathList {
-        text: folders.library,
+        text: directories.library,
         separator: b';',
-        origin: Some(objects.program_folder()),
+        origin: Some(objects.program_directory()),
         found_by: FoundBy::LibraryPath,
     };
-    gather_dirs(&chain[..count], library, folders.default, lists);
+    gather_dirs(&chain[..count], library, directories.default, lists);
 }
 
 /// Copies an object, the one that first needed it, and so on up to the program, up to the capacity,
@@ -252,7 +252,7 @@ fn put_chain<'a>(
         chain[place] = NeedingObject {
             rpath: objects.text(known.links.rpath),
             runpath: objects.text(known.links.runpath),
-            folder: objects.folder(&known),
+            directory: objects.directory(&known),
             nodeflib: known.links.has_nodeflib(),
         };
         let Some(above) = above(objects, &known) else {

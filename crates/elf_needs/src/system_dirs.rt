@@ -68,8 +68,8 @@ pub(crate) fn is_below_default(default: &[u8], path: &[u8]) -> bool
 }
 
 /// Returns `true` if a path is below a directory.
-fn is_below(folder: &[u8], path: &[u8]) -> bool
-    ensures { result ≡ is_below folder.now path.now }
+fn is_below(directory: &[u8], path: &[u8]) -> bool
+    ensures { result ≡ is_below directory.now path.now }
 {
-    path.starts_with(folder) && path.len() > folder.len() && path[folder.len()] == b'/'
+    path.starts_with(directory) && path.len() > directory.len() && path[directory.len()] == b'/'
 }

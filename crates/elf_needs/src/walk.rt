@@ -28,7 +28,7 @@ type CachedFile<F> = CachedSource<FileSource<F>>;
 #[derive(Clone, Copy)]
 pub struct NeedsOptions<'a> {
     /// The given directories.
-    pub folders: SearchDirs<'a>,
+    pub directories: SearchDirs<'a>,
     /// How many bytes may be read, of all files together, if limited.
     pub budget: Option<u64>,
     /// How many paths may be tried.
@@ -75,7 +75,7 @@ impl<'w, 's, W: Sink> DependencyWalk<'w, 's, W> {
         let NeedsBuffers { objects } = room;
         DependencyWalk {
             search: Search {
-                folders: settings.folders,
+                directories: settings.directories,
                 machine: 0,
                 path: CandidatePath::new(),
                 found_by: FoundBy::Path,

@@ -52,7 +52,7 @@ impl<W: Sink> DependencyWalk<'_, '_, W> {
     fn keep_program_path(&mut self, real: &[u8]) -> Option<u32>
         ensures left { self.new.search.left ≡ self.old.search.left }
     {
-        let root = self.search.folders.root;
+        let root = self.search.directories.root;
         if root.is_empty() || within_root(root, real).len() < real.len() {
             return self.objects.keep_path(real);
         }

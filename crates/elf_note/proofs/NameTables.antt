@@ -91,8 +91,8 @@ new-names file records met names own name inside is nowhere gives before number 
       | inl same ↦
           let none : named_by file own records ≡ None = nowhere-none file (named_by file own records) (name_at names own) (before own) nowhere in
           let here = gives-here file own records met name (names_version file met) refl is none gives in
-          let stands : name_at (set names own name) own ≡ name = get_or-set_same names own name Nowhere inside in
-          rw (← same) (rw stands here)
+          let is_at : name_at (set names own name) own ≡ name = get_or-set_same names own name Nowhere inside in
+          rw (← same) (rw is_at here)
       | inr other ↦
           let kept : name_at (set names own name) number ≡ name_at names number = get_or-set_other names own number name Nowhere (λ e. other (sym e)) in
           let unnamed = not-named file number records met (other-number (names_version file met) (number_in (number_word file met)) number (λ e. other (sym is ∙ e))) in
@@ -119,8 +119,8 @@ new-places file records met places own place is none here before number few =
     elim (cases_eq own number) [
       | inl same ↦
           let low : own < length places = rw (← same) at inside in
-          let stands : slice_index_or (set places own place) own 0 ≡ place = get_or-set_same places own place 0 low in
-          rw (← same) (rw (stands, here) (place-here file own records met (names_version file met) refl is none))
+          let is_at : slice_index_or (set places own place) own 0 ≡ place = get_or-set_same places own place 0 low in
+          rw (← same) (rw (is_at, here) (place-here file own records met (names_version file met) refl is none))
       | inr other ↦
           let kept : slice_index_or (set places own place) number 0 ≡ slice_index_or places number 0 = get_or-set_other places own number place 0 (λ e. other (sym e)) in
           let unnamed = not-named file number records met (other-number (names_version file met) (number_in (number_word file met)) number (λ e. other (sym is ∙ e))) in

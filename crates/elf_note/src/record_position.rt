@@ -50,7 +50,7 @@ pub(crate) fn bytes_each(kind: VersionKind) -> u64
 /// at the file offset `head`; `None` if the table is empty.
 pub(crate) fn first(kind: VersionKind, head: u64, size: u64) -> Option<RecordPosition>
     requires { kind ≡ Need → ⊥ }
-    ensures stands { option_map record_position_of result ≡ first_position kind head size }
+    ensures is_at { option_map record_position_of result ≡ first_position kind head size }
     ensures knows { (file : List ℕ) (table : ℕ) → KnowsAhead file table result }
     ensures low { IfSome result (λ s. (s.place ≡ 0) × (s.owner ≡ 0) × (s.kind ≡ kind)) }
 {

@@ -115,7 +115,7 @@ impl VersionCursor {
         requires fits { IfSome standing (IsPositionInTable table.count 28) }
         ensures its_table { result.held.table ≡ table }
         ensures alone { result.held.whole ≡ false }
-        ensures stands { result.standing ≡ standing }
+        ensures is_at { result.standing ≡ standing }
         ensures left { result.left ≡ left }
         ensures going { result.failed ≡ None }
     {
@@ -179,7 +179,7 @@ impl VersionCursor {
         stand: &RecordPosition,
     ) -> Result<VersionRecord, Fault>
         requires within { TableInBounds src.old.seen.size self.old.held.table }
-        requires stands { self.old.standing ≡ Some stand.now }
+        requires is_at { self.old.standing ≡ Some stand.now }
         requires going { self.old.failed ≡ None }
         ensures did { CallDid src.old src.new (fault_of_result result)
             (unread self.old - unread self.new)

@@ -8,8 +8,8 @@ use Rattle.elf_record.specs.declared.ehdr.Ehdr.{Ehdr}
 use Rattle.elf_record.proofs.PartLaws.{parts_in_file}
 
 pub ehdr_in_file : (file : List ℕ) (at : ℕ) (bytes : List ℕ) (header : Ehdr) → bytes ≡ slice file at 64 → IsEhdr bytes 0 header → IsEhdr file at header
-ehdr_in_file file at bytes header is stands =
-    let there = parts_in_file file at bytes (ehdr_parts header) is (assumption stands) in assumption there
+ehdr_in_file file at bytes header is is_at =
+    let there = parts_in_file file at bytes (ehdr_parts header) is (assumption is_at) in assumption there
 
 ident_in_file : (file : List ℕ) → ident_checks (slice file 0 64) ≡ ident_checks file
 ident_in_file file =

@@ -66,38 +66,38 @@ IsBytes-slice file at width byte i =
 part_is : (file : List ℕ) (at : ℕ) (part : RecordField) → IsBytes file → at + width_of part ≤ length file → PartStands file at part
     → slice file at (width_of part) ≡ part_spelling part
 unfolding field
-part_is file at (Number width value) byte inside stands =
+part_is file at (Number width value) byte inside is_at =
     let room : width ≤ length (drop at file) = simp length-drop (omega arith) in
     let size : length (slice file at width) ≡ width = length-take-le width (drop at file) room in
-    sym (ap (little width) stands ∙ (ap (λ n. little n (number (slice file at width))) (sym size) ∙ little-number (slice file at width) (IsBytes-slice file at width byte)))
-part_is file at (Raw width bytes) byte inside stands = sym stands
+    sym (ap (little width) is_at ∙ (ap (λ n. little n (number (slice file at width))) (sym size) ∙ little-number (slice file at width) (IsBytes-slice file at width byte)))
+part_is file at (Raw width bytes) byte inside is_at = sym is_at
 
 -- if parts are consecutive, the bytes are theirs
 all_is : (file : List ℕ) (k : ℕ) (parts : List RecordField) → IsBytes file → k + total_width parts ≤ length file → FieldsAreAt file 0 k parts
     → slice file k (total_width parts) ≡ spelling parts
-all_is file k [] byte inside stands = refl
-all_is file k (part ∷ parts) byte inside stands =
-    let here : PartStands file k part = let P : ℕ → Type 0 = λ at. PartStands file at part in subst P (place-is 0 k ∙ zero-add k) stands.0 in
+all_is file k [] byte inside is_at = refl
+all_is file k (part ∷ parts) byte inside is_at =
+    let here : PartStands file k part = let P : ℕ → Type 0 = λ at. PartStands file at part in subst P (place-is 0 k ∙ zero-add k) is_at.0 in
     take-add (width_of part) (total_width parts) (drop k file)
     ∙ (ap (λ rest. slice file k (width_of part) ++ take (total_width parts) rest) (drop-drop (width_of part) k file)
     ∙ (ap (λ front. front ++ slice file (k + width_of part) (total_width parts)) (part_is file k part byte (omega arith) here)
-    ∙ ap (λ rest. part_spelling part ++ rest) (all_is file (k + width_of part) parts byte (omega arith) stands.1)))
+    ∙ ap (λ rest. part_spelling part ++ rest) (all_is file (k + width_of part) parts byte (omega arith) is_at.1)))
 
 -- what is in a part of a file is in the file
 part_in : (file : List ℕ) (at size k : ℕ) (part : RecordField) → k + width_of part ≤ size → PartStands (slice file at size) (place 0 k) part → PartStands file (place at k) part
-part_in file at size k (Number width value) inside stands =
-    stands ∙ (ap (λ p. field (slice file at size) p width) (place-is 0 k ∙ zero-add k) ∙ (field-slice file at size k width inside ∙ ap (λ p. field file p width) (sym (place-is at k))))
-part_in file at size k (Raw width bytes) inside stands =
-    stands ∙ (ap (λ p. slice (slice file at size) p width) (place-is 0 k ∙ zero-add k) ∙ (slice-slice file at size k width inside ∙ ap (λ p. slice file p width) (sym (place-is at k))))
+part_in file at size k (Number width value) inside is_at =
+    is_at ∙ (ap (λ p. field (slice file at size) p width) (place-is 0 k ∙ zero-add k) ∙ (field-slice file at size k width inside ∙ ap (λ p. field file p width) (sym (place-is at k))))
+part_in file at size k (Raw width bytes) inside is_at =
+    is_at ∙ (ap (λ p. slice (slice file at size) p width) (place-is 0 k ∙ zero-add k) ∙ (slice-slice file at size k width inside ∙ ap (λ p. slice file p width) (sym (place-is at k))))
 
 all_in : (file : List ℕ) (at size k : ℕ) (parts : List RecordField) → k + total_width parts ≤ size → FieldsAreAt (slice file at size) 0 k parts → FieldsAreAt file at k parts
-all_in file at size k [] inside stands = tt
-all_in file at size k (part ∷ parts) inside stands =
-    (part_in file at size k part (omega arith) stands.0, all_in file at size (k + width_of part) parts (omega arith) stands.1)
+all_in file at size k [] inside is_at = tt
+all_in file at size k (part ∷ parts) inside is_at =
+    (part_in file at size k part (omega arith) is_at.0, all_in file at size (k + width_of part) parts (omega arith) is_at.1)
 
 -- the parts of some bytes of a file are in the file
 pub parts_in_file : (file : List ℕ) (at : ℕ) (bytes : List ℕ) (parts : List RecordField) → bytes ≡ slice file at (total_width parts) → FieldsAreAt bytes 0 0 parts → FieldsAreAt file at 0 parts
-parts_in_file file at bytes parts is stands = all_in file at (total_width parts) 0 parts (omega arith) (rw is at stands)
+parts_in_file file at bytes parts is is_at = all_in file at (total_width parts) 0 parts (omega arith) (rw is at is_at)
 
 joined_onto-is : (front : List ℕ) (parts : List RecordField) → joined_onto front parts ≡ front ++ spelling parts
 joined_onto-is front [] = sym (append-nil front)
@@ -112,13 +112,13 @@ spelling_stands bytes parts is fits = rw is (all_stand [] 0 parts refl fits)
 
 -- and no other bytes are
 pub only_spelling : (bytes : List ℕ) (parts : List RecordField) → IsBytes bytes → length bytes ≡ total_width parts → FieldsAreAt bytes 0 0 parts → bytes ≡ spelling parts
-only_spelling bytes parts byte size stands =
-    sym (take_all (total_width parts) bytes (omega arith)) ∙ all_is bytes 0 parts byte (omega arith) stands
+only_spelling bytes parts byte size is_at =
+    sym (take_all (total_width parts) bytes (omega arith)) ∙ all_is bytes 0 parts byte (omega arith) is_at
 
 -- the contract of the bytes that some parts are encoded in
 pub record IsEncoding (result : List ℕ) (parts : List RecordField) : Type 0 where
   pub spelled : result ≡ spelling parts
-  pub stands : FieldsAreAt result 0 0 parts
+  pub is_at : FieldsAreAt result 0 0 parts
   pub only : (bytes : List ℕ) → IsBytes bytes → length bytes ≡ total_width parts → FieldsAreAt bytes 0 0 parts → bytes ≡ result
 
 pub encoding : (result items : List ℕ) (parts : List RecordField) → result ≡ items → items ≡ joined parts → AllFit parts → IsEncoding result parts
@@ -126,6 +126,6 @@ encoding result items parts is joins fit =
     let spelt : result ≡ spelling parts = is ∙ (joins ∙ joined-is parts) in
     record {
       spelled = spelt;
-      stands = spelling_stands result parts spelt fit;
-      only = λ bytes byte size stands. only_spelling bytes parts byte size stands ∙ sym spelt;
+      is_at = spelling_stands result parts spelt fit;
+      only = λ bytes byte size is_at. only_spelling bytes parts byte size is_at ∙ sym spelt;
     }

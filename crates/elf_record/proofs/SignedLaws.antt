@@ -37,21 +37,21 @@ signed_bits : (z : ℤ) (file : List ℕ) (at : ℕ) → IsBytes file → at + 8
 signed_bits z file at byte inside is = ap (cast_unsigned w64) is ∙ bits-twos_complement (field file at 8) (field_below file at 8 byte inside)
 
 pub rela_of_parts : (bytes : List ℕ) (r : Rela) → r.r_addend ≡ twos_complement (cast_unsigned w64 r.r_addend) → FieldsAreAt bytes 0 0 (rela_parts r) → IsRela bytes 0 r
-rela_of_parts bytes r signed stands = record {
-  r_offset = stands.0;
-  r_info = stands.1.0;
-  r_addend = signed ∙ ap twos_complement stands.1.1.0;
+rela_of_parts bytes r signed is_at = record {
+  r_offset = is_at.0;
+  r_info = is_at.1.0;
+  r_addend = signed ∙ ap twos_complement is_at.1.1.0;
 }
 
 pub rela_to_parts : (bytes : List ℕ) (r : Rela) → IsBytes bytes → length bytes ≡ 24 → IsRela bytes 0 r → FieldsAreAt bytes 0 0 (rela_parts r)
 rela_to_parts bytes r byte size is = (is.r_offset, (is.r_info, (signed_bits r.r_addend bytes 16 byte (omega arith) is.r_addend, tt)))
 
 pub dyn_of_parts : (bytes : List ℕ) (r : Dyn) → r.d_tag ≡ twos_complement (cast_unsigned w64 r.d_tag) → cast_unsigned w64 r.d_tag < 256 ^ 8 → FieldsAreAt bytes 0 0 (dyn_parts r) → IsDyn bytes 0 r
-dyn_of_parts bytes r signed low stands = record {
-  d_tag = signed ∙ ap twos_complement stands.0;
-  d_tag_bits = stands.0;
-  d_tag_low = omega (arith, stands.0, low);
-  d_un = stands.1.0;
+dyn_of_parts bytes r signed low is_at = record {
+  d_tag = signed ∙ ap twos_complement is_at.0;
+  d_tag_bits = is_at.0;
+  d_tag_low = omega (arith, is_at.0, low);
+  d_un = is_at.1.0;
 }
 
 pub dyn_to_parts : (bytes : List ℕ) (r : Dyn) → IsDyn bytes 0 r → FieldsAreAt bytes 0 0 (dyn_parts r)

@@ -24,7 +24,7 @@ impl Dyn {
     /// Reads the fields from the record's bytes. No field is checked.
     pub fn decode(bytes: &[u8; 16]) -> Dyn
         ensures fields { IsDyn bytes.now 0 result }
-        ensures stands { (file : List ℕ) (at : ℕ) → bytes.now ≡ slice file at 16 →
+        ensures is_at { (file : List ℕ) (at : ℕ) → bytes.now ≡ slice file at 16 →
             IsDyn file at result }
     {
         Dyn {

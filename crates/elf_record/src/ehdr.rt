@@ -75,7 +75,7 @@ impl Ehdr {
     /// Reads the fields from the record's bytes. No field is checked.
     pub fn decode(bytes: &[u8; 64]) -> Ehdr
         ensures fields { IsEhdr bytes.now 0 result }
-        ensures stands { (file : List ℕ) (at : ℕ) → bytes.now ≡ slice file at 64 →
+        ensures is_at { (file : List ℕ) (at : ℕ) → bytes.now ≡ slice file at 64 →
             IsEhdr file at result }
     {
         Ehdr {

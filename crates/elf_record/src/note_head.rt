@@ -27,7 +27,7 @@ impl NoteHead {
     /// Reads the fields from the record's bytes. No field is checked.
     pub fn decode(bytes: &[u8; 12]) -> NoteHead
         ensures fields { IsNoteHead bytes.now 0 result }
-        ensures stands { (file : List ℕ) (at : ℕ) → bytes.now ≡ slice file at 12 →
+        ensures is_at { (file : List ℕ) (at : ℕ) → bytes.now ≡ slice file at 12 →
             IsNoteHead file at result }
     {
         NoteHead {

@@ -35,7 +35,7 @@ impl Phdr {
     /// Reads the fields from the record's bytes. No field is checked.
     pub fn decode(bytes: &[u8; 56]) -> Phdr
         ensures fields { IsPhdr bytes.now 0 result }
-        ensures stands { (file : List ℕ) (at : ℕ) → bytes.now ≡ slice file at 56 →
+        ensures is_at { (file : List ℕ) (at : ℕ) → bytes.now ≡ slice file at 56 →
             IsPhdr file at result }
     {
         Phdr {

@@ -27,7 +27,7 @@ impl Rela {
     /// Reads the fields from the record's bytes. No field is checked.
     pub fn decode(bytes: &[u8; 24]) -> Rela
         ensures fields { IsRela bytes.now 0 result }
-        ensures stands { (file : List ℕ) (at : ℕ) → bytes.now ≡ slice file at 24 →
+        ensures is_at { (file : List ℕ) (at : ℕ) → bytes.now ≡ slice file at 24 →
             IsRela file at result }
     {
         Rela {

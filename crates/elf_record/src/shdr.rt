@@ -42,7 +42,7 @@ impl Shdr {
     /// Reads the fields from the record's bytes. No field is checked.
     pub fn decode(bytes: &[u8; 64]) -> Shdr
         ensures fields { IsShdr bytes.now 0 result }
-        ensures stands { (file : List ℕ) (at : ℕ) → bytes.now ≡ slice file at 64 →
+        ensures is_at { (file : List ℕ) (at : ℕ) → bytes.now ≡ slice file at 64 →
             IsShdr file at result }
     {
         Shdr {

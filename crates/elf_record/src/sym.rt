@@ -47,7 +47,7 @@ impl Sym {
     /// Reads the fields from the record's bytes. No field is checked.
     pub fn decode(bytes: &[u8; 24]) -> Sym
         ensures fields { IsSym bytes.now 0 result }
-        ensures stands { (file : List ℕ) (at : ℕ) → bytes.now ≡ slice file at 24 →
+        ensures is_at { (file : List ℕ) (at : ℕ) → bytes.now ≡ slice file at 24 →
             IsSym file at result }
     {
         Sym {

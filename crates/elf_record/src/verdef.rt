@@ -34,7 +34,7 @@ impl Verdef {
     /// Reads the fields from the record's bytes. No field is checked.
     pub fn decode(bytes: &[u8; 20]) -> Verdef
         ensures fields { IsVerdef bytes.now 0 result }
-        ensures stands { (file : List ℕ) (at : ℕ) → bytes.now ≡ slice file at 20 →
+        ensures is_at { (file : List ℕ) (at : ℕ) → bytes.now ≡ slice file at 20 →
             IsVerdef file at result }
     {
         Verdef {

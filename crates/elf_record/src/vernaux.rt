@@ -28,7 +28,7 @@ impl Vernaux {
     /// Reads the fields from the record's bytes. No field is checked.
     pub fn decode(bytes: &[u8; 16]) -> Vernaux
         ensures fields { IsVernaux bytes.now 0 result }
-        ensures stands { (file : List ℕ) (at : ℕ) → bytes.now ≡ slice file at 16 →
+        ensures is_at { (file : List ℕ) (at : ℕ) → bytes.now ≡ slice file at 16 →
             IsVernaux file at result }
     {
         Vernaux {

@@ -30,7 +30,7 @@ impl Verneed {
     /// Reads the fields from the record's bytes. No field is checked.
     pub fn decode(bytes: &[u8; 16]) -> Verneed
         ensures fields { IsVerneed bytes.now 0 result }
-        ensures stands { (file : List ℕ) (at : ℕ) → bytes.now ≡ slice file at 16 →
+        ensures is_at { (file : List ℕ) (at : ℕ) → bytes.now ≡ slice file at 16 →
             IsVerneed file at result }
     {
         Verneed {

@@ -42,9 +42,9 @@ pub changes_same :
     → length (slice file at target.size) ≡ target.size → IsApplyTarget file headers target at
     → changes_all file target ≡ changes_of (target_of file target.section target.layout.now)
 unfolding changes_of changes_from
-changes_same file headers target at belongs long stands =
+changes_same file headers target at belongs long is_at =
     let count : section_count_of target ≡ e_shnum file = belongs.count ∙ belongs.header.e_shnum in
-    let same : target.size ≡ length (held_bytes file (section_at file target.section)) = sym long ∙ ap length stands.bytes in
+    let same : target.size ≡ length (held_bytes file (section_at file target.section)) = sym long ∙ ap length is_at.bytes in
     ap (λ n. flat_map (section_changes (target_as file target)) (places_from (section_at file) 0 n)) count
     ∙ ap (λ k. flat_map (section_changes (record { file = file; section = target.section; size = k; layout = target.layout.now })) (places_from (section_at file) 0 (e_shnum file))) same
 
@@ -54,28 +54,28 @@ failed :
     → ((refusal : Refusal) → fault ≡ Refuses refusal → (IsBudgetRefusal refusal → ⊥) → answer ≡ Err refusal) → Applies a a result entries answer
 failed a fault result entries answer is refused = grind (arith, front_none)
 
-module _ (file : List ℕ) (headers : ℕ) (target : TargetCode) (at : ℕ) (belongs : HoldsSectionHeaders file target.file.loaded target.file.store.now) (long : length (slice file at target.size) ≡ target.size) (stands : IsApplyTarget file headers target at) (entries : ℕ) where
+module _ (file : List ℕ) (headers : ℕ) (target : TargetCode) (at : ℕ) (belongs : HoldsSectionHeaders file target.file.loaded target.file.store.now) (long : length (slice file at target.size) ≡ target.size) (is_at : IsApplyTarget file headers target at) (entries : ℕ) where
   abbrev the_answer : Result (List ℕ) Refusal
   the_answer = applied file headers target.section target.layout.now
 
   of_definition : {X : Type 0} (f : List SectionChange → X) → f (changes_all file target) ≡ f (changes_of (target_of file target.section target.layout.now))
-  of_definition f = ap f (changes_same file headers target at belongs long stands)
+  of_definition f = ap f (changes_same file headers target at belongs long is_at)
 
   pub check_failed :
       (a : OutState) (fault : Fault) (result : Result Applied RunFault) → result ≡ Err (stop_of fault)
       → ChecksEntries (Err fault) (folded rising (true, 0) (changes_all file target)) → Applies a a result entries the_answer
   check_failed a fault result is h = failed a fault result entries the_answer is (λ refusal same other.
       let read = rw same at h in
-      applied-fault file headers target.section target.layout.now refusal stands.passed (sym (of_definition patches_of) ∙ folded_err rising (true, 0) refusal (changes_all file target) (read other)))
+      applied-fault file headers target.section target.layout.now refusal is_at.passed (sym (of_definition patches_of) ∙ folded_err rising (true, 0) refusal (changes_all file target) (read other)))
 
   pub text_is : (patches : List StoredBytes) → patches_of (changes_all file target) ≡ Ok patches → the_answer ≡ Ok (patched patches (slice file at target.size))
   text_is patches h =
-      applied-patched file headers target.section target.layout.now patches stands.passed (sym (of_definition patches_of) ∙ h) ∙ ap (λ b. Ok (patched patches b)) (sym stands.bytes)
+      applied-patched file headers target.section target.layout.now patches is_at.passed (sym (of_definition patches_of) ∙ h) ∙ ap (λ b. Ok (patched patches b)) (sym is_at.bytes)
 
   pub all_inside : (patches : List StoredBytes) → patches_of (changes_all file target) ≡ Ok patches → AllInside target.size patches
   all_inside patches h =
       let within = changes_inside (target_of file target.section target.layout.now) patches (sym (of_definition patches_of) ∙ h) in
-      let P : ℕ → Type 0 = λ n. AllInside n patches in subst P (sym (sym long ∙ ap length stands.bytes)) within
+      let P : ℕ → Type 0 = λ n. AllInside n patches in subst P (sym (sym long ∙ ap length is_at.bytes)) within
 
 pub writes_failed : (X : Type 0) (a b : OutState) (fault : RunFault) (text : List ℕ) (entries : ℕ) (answer : Result (List ℕ) Refusal) → answer ≡ Ok text → WritesOrWants {X = X} a b (Err fault) text → Applies a b (Err fault) entries answer
 writes_failed X a b fault text entries answer e h = grind arith

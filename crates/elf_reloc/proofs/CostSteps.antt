@@ -95,11 +95,11 @@ load_within file header size slots section layout passes is same passed =
 pub cost_stands : (file : List ℕ) (headers : ℕ) (target : ApplyTarget) (at : ℕ) (passes : ℕ) → HoldsSectionHeaders file target.file.loaded target.file.store.now → first_refusal (header_checks file ++ early_checks file headers) ≡ None
     → length (slice file at target.size) ≡ target.size → IsApplyTarget file headers target at
     → cost_with file headers target.section target.layout.now passes ≡ 64 + 64 * e_shnum file + passes_cost target passes
-cost_stands file headers target at passes belongs early long stands =
-    grind (arith, ap length stands.bytes, walk_is file target belongs, cost_with-passed file headers target.section target.layout.now passes early stands.passed)
+cost_stands file headers target at passes belongs early long is_at =
+    grind (arith, ap length is_at.bytes, walk_is file target belongs, cost_with-passed file headers target.section target.layout.now passes early is_at.passed)
 
 pub windows_same : (file : List ℕ) (headers : ℕ) (target : ApplyTarget) (at : ℕ) → length (slice file at target.size) ≡ target.size → IsApplyTarget file headers target at → window_passes file target.section ≡ 1 + windows target.size
-windows_same file headers target at long stands = ap (λ n. 1 + (n + 63) / 64) (sym (ap length stands.bytes) ∙ long)
+windows_same file headers target at long is_at = ap (λ n. 1 + (n + 63) / 64) (sym (ap length is_at.bytes) ∙ long)
 
 -- For every source: a section has no more entries than the file's size allows.
 table_inside : (bytes : List ℕ) (at size place : ℕ) → first_refusal (table_checks_of bytes at size place 24) ≡ None → sh_size bytes at ≤ size

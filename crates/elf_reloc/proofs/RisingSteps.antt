@@ -151,14 +151,14 @@ module _ (src : CountedState) (target : TargetCode) (at : ℕ) (has : HasSection
   section_long = let belongs = has.opened.belongs file held in slice-size file at target.size (omega (arith, belongs.size, has.opened.size, has.within))
 
   pub stores : (headers : ℕ) (last : Bool × ℕ) → IsApplyTarget file headers target at → folded rising (true, 0) (changes_all file target) ≡ Ok last → Stores file headers target at last.0
-  stores headers last stands told =
+  stores headers last is_at told =
       let belongs = has.opened.belongs file held in
       let found = folded_ok rising (true, 0) last (changes_all file target) told in
-      let same = changes_same file headers target at belongs section_long stands in
+      let same = changes_same file headers target at belongs section_long is_at in
       let of : ApplyTarget = target_of file target.section target.layout.now in
       let are : patches_of (changes_of of) ≡ Ok found.0 = sym (ap patches_of same) ∙ found.1 in
       let folds : folded rising (true, 0) (changes_of of) ≡ Ok last = sym (ap (folded rising (true, 0)) same) ∙ told in
-      let inside = all_inside file headers target at belongs section_long stands 0 found.0 found.1 in
+      let inside = all_inside file headers target at belongs section_long is_at 0 found.0 found.1 in
       record {
         patches = found.0;
         are = found.1;
@@ -166,5 +166,5 @@ module _ (src : CountedState) (target : TargetCode) (at : ℕ) (has : HasSection
         never_falls = never_fall_is of last found.0 are folds;
         in_order = patches_rise of last found.0 are folds;
         long = sym (length_patched found.0 (slice file at target.size) target.size section_long inside);
-        text = text_is file headers target at belongs section_long stands 0 found.0 found.1;
+        text = text_is file headers target at belongs section_long is_at 0 found.0 found.1;
       }

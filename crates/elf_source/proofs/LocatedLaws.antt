@@ -232,14 +232,14 @@ first_adds by old mid new (Err e) bytes place next keeps puts good some adds = t
 first_adds by old mid new (Ok count) bytes place next keeps puts good some adds =
     let letter = old.position.letter in
     let front = take count bytes in
-    let stands : mid.failed ≡ false = elim (cases_Bool mid.failed) [ inl is_failed ↦ absurd (no_fault_at_ok (good is_failed)) | inr no_fault ↦ no_fault ] in
+    let is_at : mid.failed ≡ false = elim (cases_Bool mid.failed) [ inl is_failed ↦ absurd (no_fault_at_ok (good is_failed)) | inr no_fault ↦ no_fault ] in
     let size : length front ≡ count = length-take-le count bytes some.1 in
     let long : 0 < length front = omega (arith, size, some.0) in
     let became = inserted by.location letter front long in
     let begins : old.position ≡ at 11 letter = ap (λ k. at k letter) place in
     let rest : Appends mid.below new.below (located_from by.location (at 12 letter) front) = rw next at adds.appends in
     record {
-      appends = rw (begins, became.0) (Appends-trans old.below mid.below new.below _ _ (puts stands) rest);
+      appends = rw (begins, became.0) (Appends-trans old.below mid.below new.below _ _ (puts is_at) rest);
       position = adds.position ∙ (ap (λ (s : LinePosition). position_at_end s front) next ∙ (sym became.1 ∙ sym (ap (λ (s : LinePosition). position_at_end s front) begins)));
       buffer = adds.buffer ∙ keeps;
     }

@@ -108,7 +108,7 @@ pub record KeepsDeferred (old new : OutState) (line : List ℕ) (held : Deferred
   pub counts : new.written ≡ held.start
   pub holds : new.held ≡ old.held + length line
   pub room : new.room ≡ old.room
-  pub stands : new.failed ≡ false
+  pub is_at : new.failed ≡ false
 
 -- the same, or the output fails permanently without any of the line
 abbrev pub HoldsLine : OutState → OutState → Result DeferredLine OutFault → List ℕ → Type 0

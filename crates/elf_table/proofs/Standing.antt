@@ -103,10 +103,10 @@ pub Gives-next : (file : Option (List ℕ)) (table : TableRange) (index shown en
     → StillHolds file passed new → GivesRow file (reading table index shown failed old) (reading table (index + 1) entry failed new)
 Gives-next file table index shown entry failed old passed new e nf below at held s h agrees =
     let place : new.at ≡ row_at table index = h.stays ∙ let p = s.its_place in omega arith in
-    let stands : passed.at ≡ row_at table index = let p = s.its_place in omega arith in
+    let is_at : passed.at ≡ row_at table index = let p = s.its_place in omega arith in
     let next : row_at table (index + 1) ≡ new.at + entry = let one = mul-split index 1 (index + 1) table.entry refl in omega arith in
     let ag : (bytes : List ℕ) → file ≡ Some bytes → drop shown old.held ≡ slice bytes (row_at table index) (length (drop shown old.held)) → HoldsBytes bytes new =
-    λ bytes same a. agrees bytes same (held ∙ a ∙ ap (λ (x : ℕ). slice bytes x (length (drop shown old.held))) (sym stands) ∙ ap (λ (x : List ℕ). slice bytes passed.at (length x)) (sym held)) in
+    λ bytes same a. agrees bytes same (held ∙ a ∙ ap (λ (x : ℕ). slice bytes x (length (drop shown old.held))) (sym is_at) ∙ ap (λ (x : List ℕ). slice bytes passed.at (length x)) (sym held)) in
     record {
       same_table = refl;
       not_failed = nf;

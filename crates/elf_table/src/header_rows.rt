@@ -26,7 +26,7 @@ pub trait HeaderRows {
     fn section_header(&self, section: u16) -> Shdr
         requires { section < (state self.now).loaded }
         ensures fields { IsShdr (row (state self.now) section) 0 result }
-        ensures stands { (file : List ℕ) → HoldsSections file (state self.now) →
+        ensures is_at { (file : List ℕ) → HoldsSections file (state self.now) →
             IsShdr file (section_at file section) result };
 
     /// Returns the number of program headers.
@@ -38,7 +38,7 @@ pub trait HeaderRows {
     fn program_header(&self, segment: u16) -> Phdr
         requires { segment < (state self.now).segments }
         ensures fields { IsPhdr (segment_bytes (state self.now) segment) 0 result }
-        ensures stands { (file : List ℕ) → HoldsSegments file (state self.now) →
+        ensures is_at { (file : List ℕ) → HoldsSegments file (state self.now) →
             IsPhdr file (segment_at file segment) result };
 }
 

@@ -33,7 +33,7 @@ impl SectionView<'_> {
     pub fn section(&self, section: u16) -> Shdr
         requires { section < self.now.store.now.loaded }
         ensures fields { IsShdr (row self.now.store.now section) 0 result }
-        ensures stands { (file : List ℕ) →
+        ensures is_at { (file : List ℕ) →
             HoldsSectionHeaders file self.now.loaded self.now.store.now →
             IsShdr file (section_at file section) result }
     {

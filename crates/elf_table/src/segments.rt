@@ -34,7 +34,7 @@ impl ExecutionView<'_> {
     pub fn segment(&self, segment: u16) -> Phdr
         requires { segment < self.now.store.now.segments }
         ensures fields { IsPhdr (segment_bytes self.now.store.now segment) 0 result }
-        ensures stands { (file : List ℕ) →
+        ensures is_at { (file : List ℕ) →
             HoldsProgramHeaders file self.now.loaded self.now.store.now →
             IsPhdr file (segment_at file segment) result }
     {

@@ -107,7 +107,7 @@ impl<'a> HeaderStore<'a> {
     pub fn section(&self, i: u16) -> Shdr
         requires { i < self.now.loaded }
         ensures fields { IsShdr (row self.now i) 0 result }
-        ensures stands { (file : List ℕ) → HoldsSections file self.now →
+        ensures is_at { (file : List ℕ) → HoldsSections file self.now →
             IsShdr file (section_at file i) result }
     {
         Shdr::decode(self.row(i))
@@ -118,7 +118,7 @@ impl<'a> HeaderStore<'a> {
     pub fn segment(&self, i: u16) -> Phdr
         requires { i < self.now.segments }
         ensures fields { IsPhdr (segment_bytes self.now i) 0 result }
-        ensures stands { (file : List ℕ) → HoldsSegments file self.now →
+        ensures is_at { (file : List ℕ) → HoldsSegments file self.now →
             IsPhdr file (segment_at file i) result }
     {
         Phdr::decode(self.segment_row(i))

@@ -6,7 +6,7 @@ use Rattle.std.specs.Prelude.{All, sum_by}
 use Rattle.std.specs.declared.cmp.Ordering.{Ordering}
 use Rattle.std.specs.declared.cmp.Ordering.TheVariants.{Less, Equal, Greater}
 use Rattle.elf_model.specs.Bytes.{slice}
-use Rattle.elf_walk.specs.Prelude.{HoldsWithin, IsEnough, IsSmallFolder, IsWithinKept, KeptNames, LeavesRoom, bytes_held, in_order, insert_by, order}
+use Rattle.elf_walk.specs.Prelude.{HoldsWithin, IsEnough, IsSmallDirectory, IsWithinKept, KeptNames, LeavesRoom, bytes_held, in_order, insert_by, order}
 use Rattle.elf_walk.proofs.SortedLaws.{all_more}
 
 piece_length : (bytes : List ℕ) (start len : ℕ) → start + len ≤ length bytes → length (slice bytes start len) ≡ len
@@ -48,7 +48,7 @@ pub held_more : (names : List (List ℕ)) (name : List ℕ) → bytes_held (name
 held_more names name = sum_by_push (λ (n : List ℕ). length n) names name
 
 -- a name is inserted after others that are not enough
-pub few_more : (names : List (List ℕ)) (name : List ℕ) → (0 < length names → IsSmallFolder names) → length name ≤ 255 → IsWithinKept (names ++ name ∷ [])
+pub few_more : (names : List (List ℕ)) (name : List ℕ) → (0 < length names → IsSmallDirectory names) → length name ≤ 255 → IsWithinKept (names ++ name ∷ [])
 few_more [] name few short = (omega arith, omega (arith, held_more [] name))
 few_more (x ∷ xs) name few short =
     let now = few (omega arith) in

@@ -21,8 +21,8 @@ KEPT_SIZE = 589824
 abbrev pub IsEnough : List (List ℕ) → Type 0
 IsEnough names = (KEPT_COUNT ≤ length names) ⊎ (KEPT_SIZE ≤ bytes_held names)
 
-abbrev pub IsSmallFolder : List (List ℕ) → Type 0
-IsSmallFolder names = (length names < KEPT_COUNT) × (bytes_held names < KEPT_SIZE)
+abbrev pub IsSmallDirectory : List (List ℕ) → Type 0
+IsSmallDirectory names = (length names < KEPT_COUNT) × (bytes_held names < KEPT_SIZE)
 
 -- no more names than are kept, of which the last may be longer than what is left
 abbrev pub IsWithinKept : List (List ℕ) → Type 0

@@ -6,8 +6,8 @@ use Rattle.elf_walk.specs.Order.{order}
 use Rattle.elf_walk.specs.Passes.{in_order, names_following}
 
 -- the maximum number of bytes of a name in a directory
-abbrev pub FOLDER_NAME_BYTES : ℕ
-FOLDER_NAME_BYTES = 255
+abbrev pub ENTRY_NAME_BYTES : ℕ
+ENTRY_NAME_BYTES = 255
 
 -- what is kept of a directory: its first names after another one, sorted; the same as they are
 -- stored; that other one; whether the directory has more of them, and the last that is kept then
@@ -24,7 +24,7 @@ is_dot_entry name = bytes_eq name (codes ".") || bytes_eq name (codes "..")
 
 -- a name that can be represented
 abbrev pub IsNameable : List ℕ → Type 0
-IsNameable name = IsUtf8 name × (length name ≤ FOLDER_NAME_BYTES)
+IsNameable name = IsUtf8 name × (length name ≤ ENTRY_NAME_BYTES)
 
 -- some names are a prefix of others, and do not have all of them
 pub record IsCutFront (limit : List ℕ) (kept all : List (List ℕ)) : Type 0 where

@@ -6,7 +6,7 @@ unfoldable pub use Rattle.elf_walk.specs.Entries.{rest_from, whole_entries}
 pub use Rattle.elf_walk.specs.Found.{FindsWithin, IsFoundWithin, traits_found}
 pub use Rattle.elf_walk.specs.Fronts.{front_asked}
 pub use Rattle.elf_walk.specs.Gathered.{AreNamesOf, EndsEntry, GathersNames, PutsNames, ReadsJoin, all_bytes, saturated, unnamed_count}
-pub use Rattle.elf_walk.specs.Held.{IsEnough, IsSmallFolder, IsWithinKept, LeavesRoom, bytes_held, repeats}
+pub use Rattle.elf_walk.specs.Held.{IsEnough, IsSmallDirectory, IsWithinKept, LeavesRoom, bytes_held, repeats}
 pub use Rattle.elf_walk.specs.Kept.{HoldsWithin, IsCutFront, IsFront, IsNameable, KeepsFirstNames, KeptNames, is_dot_entry}
 pub use Rattle.elf_walk.specs.Members.{FindsSorted, FindsSortedState}
 pub use Rattle.elf_walk.specs.Order.{order}

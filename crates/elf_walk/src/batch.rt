@@ -6,7 +6,7 @@ ghost use Rattle.elf_walk.specs.Kept.{HoldsWithin, IsFront, IsNameable, KeepsFir
 ghost use Rattle.elf_walk.specs.Order.{order};
 ghost use Rattle.elf_walk.specs.Passes.{in_order};
 
-use crate::dir_names::{DirNames, FOLDER_NAME_BYTES};
+use crate::dir_names::{DirNames, ENTRY_NAME_BYTES};
 use arrayvec::ArrayVec;
 use std::alloc::{AllocError, Global};
 use std::cmp::Ordering;
@@ -203,7 +203,7 @@ fn is_nameable(name: &[u8]) -> bool
     ensures nameable { result ≡ true → IsNameable name.now }
     ensures unnameable { result ≡ false → ¬ (IsNameable name.now) }
 {
-    str::from_utf8(name).is_ok() && name.len() <= FOLDER_NAME_BYTES
+    str::from_utf8(name).is_ok() && name.len() <= ENTRY_NAME_BYTES
 }
 
 /// Sorts names, and drops the last ones if there are many: then the limit is the last that is kept.

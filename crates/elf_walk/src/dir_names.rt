@@ -3,13 +3,13 @@ ghost use Rattle.std.specs.Prelude.{◌≡◌, ◌+◌, ◌≤◌, ◌<◌, ◌+
 ghost use Rattle.std.specs.List.Sorted.{IsPermutation, IsSorted};
 ghost use Rattle.elf_model.specs.Bytes.{slice};
 ghost use Rattle.elf_walk.specs.Order.{order};
-ghost use Rattle.elf_walk.specs.Held.{IsEnough, IsSmallFolder, LeavesRoom, bytes_held, repeats};
+ghost use Rattle.elf_walk.specs.Held.{IsEnough, IsSmallDirectory, LeavesRoom, bytes_held, repeats};
 
 use std::alloc::{AllocError, Global};
 use std::marker::Model;
 
 /// The maximum number of bytes of a name in a directory.
-pub const FOLDER_NAME_BYTES: usize = 255;
+pub const ENTRY_NAME_BYTES: usize = 255;
 
 /// How many names are held at once.
 const MOST_NAMES: usize = 32_768;
@@ -100,14 +100,14 @@ impl DirNames {
     pub(crate) fn is_full(&self) -> bool
         ensures { result ≡ false → LeavesRoom self.now }
     {
-        self.len() >= MOST_NAMES || self.size() > MOST_BYTES - FOLDER_NAME_BYTES
+        self.len() >= MOST_NAMES || self.size() > MOST_BYTES - ENTRY_NAME_BYTES
     }
 
     /// Returns `true` if these are as many names as are kept if there are more.
     pub(crate) fn is_enough(&self) -> bool
         ensures none { self.now ≡ [] → result ≡ false }
         ensures enough { result ≡ true → IsEnough self.now }
-        ensures few { result ≡ false → 0 < length self.now → IsSmallFolder self.now }
+        ensures few { result ≡ false → 0 < length self.now → IsSmallDirectory self.now }
     {
         self.len() > 0 && (self.len() >= KEPT_NAMES || self.size() >= KEPT_BYTES)
     }

@@ -27,13 +27,13 @@ pub fn gather<R: Files>(
     batch: &mut NameBatch,
 ) -> Result<u64, FileStatus>
     requires { KeepsFirstNames [] batch.old }
-    ensures gathers { IfOk result (λ unnamed. (folder left : R.Dir)
-        × GathersNames (length room.old) (R.Dir.remaining folder) (R.Dir.remaining left)
+    ensures gathers { IfOk result (λ unnamed. (directory left : R.Dir)
+        × GathersNames (length room.old) (R.Dir.remaining directory) (R.Dir.remaining left)
         unnamed batch.old batch.new) }
     ensures state { IfErr result (λ state. (state ≡ Unread) ⊎ (state ≡ Memory)) }
 {
     match rt.open_dir(path) {
-        Ok(mut folder) => gather_from(&mut folder, room, batch),
+        Ok(mut directory) => gather_from(&mut directory, room, batch),
         Err(error) => Err(unopened(&error)),
     }
 }
@@ -44,19 +44,19 @@ pub fn gather<R: Files>(
 /// # Errors
 /// The state of a directory of which a read fails, or for whose names there is no memory.
 fn gather_from<D: Read>(
-    folder: &mut D,
+    directory: &mut D,
     room: &mut [u8],
     batch: &mut NameBatch,
 ) -> Result<u64, FileStatus>
     requires { KeepsFirstNames [] batch.old }
     ensures gathers { IfOk result (λ unnamed.
-        GathersNames (length room.old) (D.remaining folder.old) (D.remaining folder.new)
+        GathersNames (length room.old) (D.remaining directory.old) (D.remaining directory.new)
         unnamed batch.old batch.new) }
     ensures state { IfErr result (λ state. (state ≡ Unread) ⊎ (state ≡ Memory)) }
 {
     let mut unnamed: u64 = 0;
     for _turn in 0..u64::MAX {
-        let count = match folder.read(room) {
+        let count = match directory.read(room) {
             Ok(0) => return ended(batch, unnamed),
             Ok(count) => count,
             Err(error) if error.kind() == ErrorKind::Interrupted => continue,

@@ -42,7 +42,7 @@ pub use dir_entries::{ends_at, entry_end};
 pub use dir_laws::{
     all_names, entry_is_found, last_is_found, order_ascends, pass_keeps, reads_join,
 };
-pub use dir_names::{DirNames, FOLDER_NAME_BYTES, KEPT_BYTES, KEPT_NAMES};
+pub use dir_names::{DirNames, ENTRY_NAME_BYTES, KEPT_BYTES, KEPT_NAMES};
 pub use dir_walk::gather;
 pub use each_file::FileVisitor;
 pub use file_lists::ListFiles;

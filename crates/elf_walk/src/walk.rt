@@ -58,7 +58,7 @@ enum FoundEntry {
     /// A file.
     File,
     /// A directory.
-    Folder,
+    Directory,
     /// Neither: a link, a device, a pipe or a socket.
     Other,
     /// Something that cannot be examined.
@@ -177,7 +177,7 @@ impl DirWalk {
             FoundEntry::File => visit_file(rt, many, text),
             FoundEntry::Other => Ok(()),
             FoundEntry::Gone(state) => many.report_state(state, &self.path),
-            FoundEntry::Folder => self.enter(rt, many),
+            FoundEntry::Directory => self.enter(rt, many),
         }
     }
 
@@ -300,7 +300,7 @@ fn look<R: Files>(rt: &R, path: &str) -> FoundEntry {
         Err(error) => return FoundEntry::Gone(unopened(&error)),
     };
     if kind.is_dir() {
-        return FoundEntry::Folder;
+        return FoundEntry::Directory;
     }
     if kind.is_file() {
         return FoundEntry::File;

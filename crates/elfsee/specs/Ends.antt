@@ -60,7 +60,7 @@ pub record EndsRunOver {W A : Type 0} (contents : W → Option (List ℕ)) (does
   pub begins : before.taken ≡ writer_contents contents output
   pub did : does old new before after answer
   pub last : BufWriter W A
-  pub stands : after.taken ≡ writer_contents contents last
+  pub is_at : after.taken ≡ writer_contents contents last
   pub ends : ends_by answer sink.failed status line
   pub rest : PutsRest (wants_rest answer) sink.failed (writer_buffer last) (contents (writer_inner last)) (contents sink.writer)
 

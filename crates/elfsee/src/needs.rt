@@ -216,16 +216,16 @@ pub fn last_dirs<'a, R: Files>(rt: &R, asked: &CommandArgs<'a>) -> &'a [u8] {
 
 /// Returns the settings of a walk, with the directories that are searched last.
 pub fn settings<'a>(asked: &CommandArgs<'a>, default: &'a [u8]) -> NeedsOptions<'a>
-    ensures library { result.folders.library.now ≡ asked.now.library_path.now }
-    ensures default { result.folders.default.now ≡ default.now }
-    ensures root { result.folders.root.now ≡ asked.now.root.now }
+    ensures library { result.directories.library.now ≡ asked.now.library_path.now }
+    ensures default { result.directories.default.now ≡ default.now }
+    ensures root { result.directories.root.now ≡ asked.now.root.now }
     ensures budget { result.budget ≡ asked.now.caps.limits.budget }
     ensures tries { result.tries ≡ unwrap_or asked.now.max_tries 100000 }
     ensures format { result.lines.format ≡ asked.now.caps.style.format }
     ensures problems { result.lines.problems ≡ asked.now.problems }
 {
     NeedsOptions {
-        folders: SearchDirs {
+        directories: SearchDirs {
             library: asked.library_path.as_bytes(),
             default,
             root: asked.root.as_bytes(),

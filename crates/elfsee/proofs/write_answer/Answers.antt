@@ -20,7 +20,7 @@ returns g c =
       begins = c.new-out.ensures.taken ∙ ap (writer_contents g.W.Write.contents) c.new.ensures.writer;
       did = ran.ensures.runs;
       last = c.into_inner-2.result;
-      stands = sym (ap (writer_contents g.W.Write.contents) c.into_inner-2.ensures ∙ c.into_inner.ensures.taken);
+      is_at = sym (ap (writer_contents g.W.Write.contents) c.into_inner-2.ensures ∙ c.into_inner.ensures.taken);
       ends = subst (λ failed. EndsTask c.args.request.now.task ran.result failed c.task_ending-ending.result.0 c.task_ending-ending.result.1.now) c.failed.ensures c.task_ending-ending.ensures;
       rest = c.end_answer-output.ensures.rest;
     }

@@ -16,7 +16,7 @@ use Rattle.elf_archive.proofs.first_fault.find_in_members.Goals as goal
 
 pub members-init : goal.members-init
 members-init g c = rw c.new-cursor.ensures (record {
-  stands = record { within = omega (arith, c.requires.size.0); passed = omega arith; names = tt };
+  is_at = record { within = omega (arith, c.requires.size.0); passed = omega arith; names = tt };
   slots = refl;
   grows = grows_not _;
   bytes = 0;
@@ -28,8 +28,8 @@ members-init g c = rw c.new-cursor.ensures (record {
 pub advance-requires-clause-size : goal.advance-requires-clause-size
 advance-requires-clause-size g c = rw c.members.invariant.reads.keeps.same_size c.requires.size.1
 
-pub advance-requires-clause-stands : goal.advance-requires-clause-stands
-advance-requires-clause-stands g c = subst (λ (n : ℕ). IsMemberWalkInBounds n c.members.cursor) (sym c.members.invariant.reads.keeps.same_size) c.members.invariant.stands
+pub advance-requires-clause-is_at : goal.advance-requires-clause-is_at
+advance-requires-clause-is_at g c = subst (λ (n : ℕ). IsMemberWalkInBounds n c.members.cursor) (sym c.members.invariant.reads.keeps.same_size) c.members.invariant.is_at
 
 pub returns-in_err-member : goal.returns-in_err-member
 returns-in_err-member g c =
@@ -168,7 +168,7 @@ members-preserved g c =
     let most = member_allowed size slots style c.in-Some.member.extent.size c.members.cursor c.advance.new.self
     (omega (arith, passes.begins, passes.lies)) (omega (arith, passes.begins, passes.ends)) in
     record {
-      stands = subst (λ (n : ℕ). IsMemberWalkInBounds n c.advance.new.self) known.reads.keeps.same_size passes.stands;
+      is_at = subst (λ (n : ℕ). IsMemberWalkInBounds n c.advance.new.self) known.reads.keeps.same_size passes.is_at;
       slots = did.slots ∙ known.slots;
       grows = grows_then known.grows did.grows;
       bytes = known.bytes + (first + second);
@@ -188,7 +188,7 @@ members-preserved g c =
 pub members-smaller : goal.members-smaller
 members-smaller g c =
     let passes = rw c.in-Some.is at c.in_ok-member.ensures.steps in
-    omega (arith, passes.begins, passes.ends, passes.stands.within, c.members.invariant.reads.keeps.same_size)
+    omega (arith, passes.begins, passes.ends, passes.is_at.within, c.members.invariant.reads.keeps.same_size)
 
 pub returns : goal.returns
 returns g c =

@@ -13,7 +13,7 @@ use Rattle.elf_archive.proofs.listing.list_members.Goals as goal
 
 pub members-init : goal.members-init
 members-init g c = rw c.new-cursor.ensures (record {
-  stands = record { within = omega (arith, c.requires.size.0); passed = omega arith; names = tt };
+  is_at = record { within = omega (arith, c.requires.size.0); passed = omega arith; names = tt };
   slots = refl;
   grows = grows_not _;
   bytes = 0;
@@ -50,10 +50,10 @@ returns-in_err-refused g c =
 pub members-preserved-then-any : goal.members-preserved-then-any
 members-preserved-then-any g c =
     let known = c.members.invariant in
-    let stands = rw c.in-Some.is at c.in_ok-refused.ensures.stands in
+    let is_at = rw c.in-Some.is at c.in_ok-refused.ensures.is_at in
     let step = rw c.in-Some.is at c.in_ok-refused.ensures.within in
     record {
-      stands = subst (λ (n : ℕ). IsMemberWalkInBounds n c.list_next.new.cursor) known.reads.keeps.same_size stands.0;
+      is_at = subst (λ (n : ℕ). IsMemberWalkInBounds n c.list_next.new.cursor) known.reads.keeps.same_size is_at.0;
       slots = c.in_ok-refused.ensures.slots ∙ known.slots;
       grows = grows_then known.grows c.in_ok-refused.ensures.grows;
       bytes = known.bytes + step.bytes;
@@ -65,17 +65,17 @@ members-preserved-then-any g c =
           let takes = rw known.slots at (c.in_ok-refused.ensures.cost file now) in
           let text = rw known.slots at (c.in_ok-refused.ensures.text file now) in
           let steps = rw (c.in-Some.is, known.slots) at (c.in_ok-refused.ensures.steps file now) in
-          walk_more c.args.choice.alone file c.args.store.now.slots (style_of c.args.choice.style) c.args.choice.parts.0 (length file) before_members c.members.cursor c.list_next.new.cursor _ _ _ _ _ _ c.members.any c.in-Some.refused _ (ap (λ a. a || c.in-Some.refused) c.if-any.true ∙ sym c.if-any.true) stands.1
+          walk_more c.args.choice.alone file c.args.store.now.slots (style_of c.args.choice.style) c.args.choice.parts.0 (length file) before_members c.members.cursor c.list_next.new.cursor _ _ _ _ _ _ c.members.any c.in-Some.refused _ (ap (λ a. a || c.in-Some.refused) c.if-any.true ∙ sym c.if-any.true) is_at.1
           (known.walks file held) steps takes text;
     }
 
 pub members-preserved : goal.members-preserved
 members-preserved g c =
     let known = c.members.invariant in
-    let stands = rw c.in-Some.is at c.in_ok-refused.ensures.stands in
+    let is_at = rw c.in-Some.is at c.in_ok-refused.ensures.is_at in
     let step = rw c.in-Some.is at c.in_ok-refused.ensures.within in
     record {
-      stands = subst (λ (n : ℕ). IsMemberWalkInBounds n c.list_next.new.cursor) known.reads.keeps.same_size stands.0;
+      is_at = subst (λ (n : ℕ). IsMemberWalkInBounds n c.list_next.new.cursor) known.reads.keeps.same_size is_at.0;
       slots = c.in_ok-refused.ensures.slots ∙ known.slots;
       grows = grows_then known.grows c.in_ok-refused.ensures.grows;
       bytes = known.bytes + step.bytes;
@@ -87,7 +87,7 @@ members-preserved g c =
           let takes = rw known.slots at (c.in_ok-refused.ensures.cost file now) in
           let text = rw known.slots at (c.in_ok-refused.ensures.text file now) in
           let steps = rw (c.in-Some.is, known.slots) at (c.in_ok-refused.ensures.steps file now) in
-          walk_more c.args.choice.alone file c.args.store.now.slots (style_of c.args.choice.style) c.args.choice.parts.0 (length file) before_members c.members.cursor c.list_next.new.cursor _ _ _ _ _ _ c.members.any c.in-Some.refused _ (ap (λ a. a || c.in-Some.refused) c.if-any.false) stands.1
+          walk_more c.args.choice.alone file c.args.store.now.slots (style_of c.args.choice.style) c.args.choice.parts.0 (length file) before_members c.members.cursor c.list_next.new.cursor _ _ _ _ _ _ c.members.any c.in-Some.refused _ (ap (λ a. a || c.in-Some.refused) c.if-any.false) is_at.1
           (known.walks file held) steps takes text;
     }
 
@@ -120,15 +120,15 @@ returns g c =
 pub list_next-requires-clause-whole : goal.list_next-requires-clause-whole
 list_next-requires-clause-whole g c = still_whole _ _ _ c.requires.whole c.members.invariant.reads
 
-pub list_next-requires-clause-stands : goal.list_next-requires-clause-stands
-list_next-requires-clause-stands g c = subst (λ (n : ℕ). IsMemberWalkInBounds n c.members.cursor) (sym c.members.invariant.reads.keeps.same_size) c.members.invariant.stands
+pub list_next-requires-clause-is_at : goal.list_next-requires-clause-is_at
+list_next-requires-clause-is_at g c = subst (λ (n : ℕ). IsMemberWalkInBounds n c.members.cursor) (sym c.members.invariant.reads.keeps.same_size) c.members.invariant.is_at
 
 pub members-smaller-then-any : goal.members-smaller-then-any
 members-smaller-then-any g c =
-    let stands = rw c.in-Some.is at c.in_ok-refused.ensures.stands in
-    omega (arith, stands.0.within, stands.1, c.members.invariant.reads.keeps.same_size)
+    let is_at = rw c.in-Some.is at c.in_ok-refused.ensures.is_at in
+    omega (arith, is_at.0.within, is_at.1, c.members.invariant.reads.keeps.same_size)
 
 pub members-smaller : goal.members-smaller
 members-smaller g c =
-    let stands = rw c.in-Some.is at c.in_ok-refused.ensures.stands in
-    omega (arith, stands.0.within, stands.1, c.members.invariant.reads.keeps.same_size)
+    let is_at = rw c.in-Some.is at c.in_ok-refused.ensures.is_at in
+    omega (arith, is_at.0.within, is_at.1, c.members.invariant.reads.keeps.same_size)

@@ -13,7 +13,7 @@ invariant-members g l =
     let headers = l.fn.store.slots in
     let style = style_of l.fn.choice.style in
     record {
-      stands : IsMemberWalkInBounds size l.cursor;
+      is_at : IsMemberWalkInBounds size l.cursor;
       slots : l.store.slots ≡ headers;
       grows : OutGrows l.fn.out l.out;
       bytes : ℕ;

@@ -15,8 +15,8 @@ use Rattle.elf_archive.proofs.listing.list_next.Goals as goal
 pub advance-requires-clause-size : goal.advance-requires-clause-size
 advance-requires-clause-size g c = c.requires.size
 
-pub advance-requires-clause-stands : goal.advance-requires-clause-stands
-advance-requires-clause-stands g c = c.requires.stands
+pub advance-requires-clause-is_at : goal.advance-requires-clause-is_at
+advance-requires-clause-is_at g c = c.requires.is_at
 
 pub returns-in_err-member : goal.returns-in_err-member
 returns-in_err-member g c =
@@ -28,7 +28,7 @@ returns-in_err-member g c =
     record {
       slots = refl;
       grows = grows_not _;
-      stands = rw p.1 tt;
+      is_at = rw p.1 tt;
       within = rw (p.1, p.2) (record {
         bytes = bytes;
         within = omega (arith, most);
@@ -52,7 +52,7 @@ returns-in_default g c =
     record {
       slots = refl;
       grows = grows_not _;
-      stands = tt;
+      is_at = tt;
       within = record {
         bytes = step_cost c.args.src.now.seen.size style.cap c.args.cursor.now;
         within = omega (arith, most);
@@ -93,7 +93,7 @@ returns-in_err-refused g c =
     record {
       slots = did.slots;
       grows = did.grows;
-      stands = rw p.1 tt;
+      is_at = rw p.1 tt;
       within = rw (p.1, p.2) (record {
         bytes = first + second;
         within = omega (arith, most);
@@ -127,7 +127,7 @@ returns g c =
     record {
       slots = did.slots;
       grows = did.grows;
-      stands = (passes.stands, omega (arith, passes.begins, passes.ends));
+      is_at = (passes.is_at, omega (arith, passes.begins, passes.ends));
       within = record {
         bytes = first + second;
         within = omega (arith, most);

@@ -1,6 +1,6 @@
 -- What the sink took is the section.
 use Rattle.std.proofs.Common.{arith}
-use Rattle.elf_capi.proofs.ApplyingLaws.{stands}
+use Rattle.elf_capi.proofs.ApplyingLaws.{is_at}
 use Rattle.elf_capi.proofs.BudgetLaws.{spent}
 use Rattle.elf_capi.proofs.ListingLaws.{nothing_took}
 use Rattle.elf_capi.proofs.applied.write_to_sink.Goals as goal
@@ -14,7 +14,7 @@ returns-clause-text c =
     let known = c.file_within-src.ensures.known in
     let before = nothing_took first.buffer.ghost_name first.len first.buffer.now first.spare c.new-out.result.taken c.new-out.ensures.taken c.new.ensures.len c.new.ensures.spare in
     rw (c.status_from-outcome.ensures, c.is_some.ensures)
-    (stands file c.args.store.now.slots wanted.section wanted.budget wanted.layout.now first.buffer.ghost_name sink.buffer.ghost_name sink.len _ _ sink.buffer.now _ sink.spare sink.failed _ _
+    (is_at file c.args.store.now.slots wanted.section wanted.budget wanted.layout.now first.buffer.ghost_name sink.buffer.ghost_name sink.len _ _ sink.buffer.now _ sink.spare sink.failed _ _
     c.file_within-src.result c.apply_with-applied.new.src c.apply_with-applied.result before c.into_inner-sink.ensures.taken c.into_inner-sink.ensures.failed sink.full sink.over
     c.into_inner.ensures c.file_within-src.ensures.limit c.file_within-src.ensures.unasked (c.file_within-src.result.seen.sized file known) c.apply_with-applied.ensures.applies.says (c.apply_with-applied.ensures.applies.enough file known) (c.apply_with-applied.ensures.applies.text file known))
 

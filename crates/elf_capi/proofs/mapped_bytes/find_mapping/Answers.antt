@@ -13,6 +13,6 @@ returns-in-Some c =
     let above = c.in-Some.ensures.holds.above in (
       of.pass,
       c.in-Some.ensures.held file of.segments of.header.e_phnum ∙ ap Some (sym place),
-      rw place (c.program_header.ensures.stands file of.segments),
+      rw place (c.program_header.ensures.is_at file of.segments),
       omega (arith, begins, above),
     )

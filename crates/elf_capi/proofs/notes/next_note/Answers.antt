@@ -29,9 +29,9 @@ returns-in_default c =
     let table = c.bytes_of-table.result.now in
     let head = c.decode-head.result in
     let many : 12 ≤ length table = omega (arith, c.if-table-lt12.false) in
-    let stands : IsNoteHead table 0 head = c.decode-head.ensures.stands table 0 c.chunk_at.ensures in
+    let is_at : IsNoteHead table 0 head = c.decode-head.ensures.is_at table 0 c.chunk_at.ensures in
     let few = rw c.note_align.ensures.value at c.in_default.ensures in
-    (refl, past (note_align old.align) old.at (slice c.args.file.now old.at old.left) head (rw b at stands) (rw b at many) (rw b at few), c.cut-in_default.ensures)
+    (refl, past (note_align old.align) old.at (slice c.args.file.now old.at old.left) head (rw b at is_at) (rw b at many) (rw b at few), c.cut-in_default.ensures)
 
 pub returns : goal.returns
 returns c =
@@ -43,7 +43,7 @@ returns c =
     let parts = c.in-Some.parts in
     let a : ℕ = note_align old.align in
     let many : 12 ≤ length table = omega (arith, c.if-table-lt12.false) in
-    let stands : IsNoteHead table 0 head = c.decode-head.ensures.stands table 0 c.chunk_at.ensures in
+    let is_at : IsNoteHead table 0 head = c.decode-head.ensures.is_at table 0 c.chunk_at.ensures in
     let are : AreNoteParts a head (length table) parts = rw c.note_align.ensures.value at c.in-Some.ensures in
     let whole : length (slice file old.at old.left) ≤ old.left = omega (arith, length-take old.left (drop old.at file)) in
     let within : length table ≤ old.left = rw (sym b) at whole in
@@ -58,7 +58,7 @@ returns c =
       },
       (
         first_note a (slice file old.at old.left),
-        found a file old.at old.left head (rw b at stands) (rw b at many) (rw b at fit) whole parts.size (rw b at are.size),
-        tells a file old head _ (rw b at stands) (rw b at fit) whole refl refl refl refl refl refl (ap (λ (x : ℕ). old.at + x) are.descriptor),
+        found a file old.at old.left head (rw b at is_at) (rw b at many) (rw b at fit) whole parts.size (rw b at are.size),
+        tells a file old head _ (rw b at is_at) (rw b at fit) whole refl refl refl refl refl refl (ap (λ (x : ℕ). old.at + x) are.descriptor),
       ),
     )

@@ -15,7 +15,7 @@ returns-in_default c =
     let file = c.args.file.now in
     let records = c.args.records.now in
     let size = bytes_within (length file) records in
-    let none : None ≡ standing_in size records = rw (c.table-table.ensures.count) at c.in_default.ensures.stands in
+    let none : None ≡ standing_in size records = rw (c.table-table.ensures.count) at c.in_default.ensures.is_at in
     (ap (λ o. visited_from file records.at size o records.left) (sym none) ∙ met-ended file records.at size records.left, refl)
 
 pub advance-met-requires : goal.advance-met-requires
@@ -43,20 +43,20 @@ returns-in-Ok-Some c =
     let met : c.advance-met.result ≡ Ok (Some c.in-Ok-Some.record) = search rules in
     let agrees : IsCursorOf file old = record {
       held = λ whole. absurd (let false = resumed.alone in cc);
-      ahead = rw (resumed.its_table, resumed.stands) c.in-Some.ensures.knows;
+      ahead = rw (resumed.its_table, resumed.is_at) c.in-Some.ensures.knows;
     } in
     let step = rw met at (c.advance-met.ensures.did.known file known agrees) in
     let gives = step.tells resumed.going in
     let leaves = rw met at c.advance-met.ensures.leaves in
-    let before = left_is file records table (Some c.in-Some.standing) old c.table-table.ensures.at c.table-table.ensures.count c.in-Some.ensures.stands resumed.its_table resumed.stands resumed.left in
-    let stood : Some stand ≡ standing_in size records = rw (c.table-table.ensures.count) at c.in-Some.ensures.stands in
+    let before = left_is file records table (Some c.in-Some.standing) old c.table-table.ensures.at c.table-table.ensures.count c.in-Some.ensures.is_at resumed.its_table resumed.is_at resumed.left in
+    let stood : Some stand ≡ standing_in size records = rw (c.table-table.ensures.count) at c.in-Some.ensures.is_at in
     let first = sym before ∙ gives.first in
     let inside = visited_inside file records.at size records.left stand gives.met (versions_left file new) (ap (λ o. visited_from file records.at size o records.left) stood ∙ first) in
     let held = ap (λ (h : BufferedTable). h.table) c.advance-met.ensures.keeps.same_held ∙ resumed.its_table in
     let at = ap (λ (t : TableRange). t.at) held ∙ c.table-table.ensures.at in
     let count = ap (λ (t : TableRange). t.count) held ∙ c.table-table.ensures.count in
     let leads : option_map record_position_of new.standing ≡ next_position file records.at stand =
-    rw (resumed.stands, resumed.its_table, c.table-table.ensures.at) at step.leads in
+    rw (resumed.is_at, resumed.its_table, c.table-table.ensures.at) at step.leads in
     let all = rw (count) at c.standing-in-Ok-Some.ensures.fits in
     let is = c.standing-in-Ok-Some.ensures.is in
     let owned = rw (c.table-table.ensures.count) at c.in-Some.ensures.owned in
@@ -79,10 +79,10 @@ returns-in-Ok-None c =
     let met : c.advance-met.result ≡ Ok None = search rules in
     let agrees : IsCursorOf file old = record {
       held = λ whole. absurd (let false = resumed.alone in cc);
-      ahead = rw (resumed.its_table, resumed.stands) c.in-Some.ensures.knows;
+      ahead = rw (resumed.its_table, resumed.is_at) c.in-Some.ensures.knows;
     } in
     let step = rw met at (c.advance-met.ensures.did.known file known agrees) in
-    let before = left_is file records c.table-table.result (Some c.in-Some.standing) old c.table-table.ensures.at c.table-table.ensures.count c.in-Some.ensures.stands resumed.its_table resumed.stands resumed.left in
+    let before = left_is file records c.table-table.result (Some c.in-Some.standing) old c.table-table.ensures.at c.table-table.ensures.count c.in-Some.ensures.is_at resumed.its_table resumed.is_at resumed.left in
     (sym before ∙ step.tells resumed.going, refl)
 
 pub returns-in-Err-Refused : goal.returns-in-Err-Refused
@@ -95,9 +95,9 @@ returns-in-Err-Refused c =
     let met : c.advance-met.result ≡ Err (Refused c.in-Err-Refused.refusal) = search rules in
     let agrees : IsCursorOf file old = record {
       held = λ whole. absurd (let false = resumed.alone in cc);
-      ahead = rw (resumed.its_table, resumed.stands) c.in-Some.ensures.knows;
+      ahead = rw (resumed.its_table, resumed.is_at) c.in-Some.ensures.knows;
     } in
     let step = rw met at (c.advance-met.ensures.did.known file known agrees) in
     let says = rw (resumed.going, met) at c.advance-met.ensures.did.costs.says in
-    let before = left_is file records c.table-table.result (Some c.in-Some.standing) old c.table-table.ensures.at c.table-table.ensures.count c.in-Some.ensures.stands resumed.its_table resumed.stands resumed.left in
+    let before = left_is file records c.table-table.result (Some c.in-Some.standing) old c.table-table.ensures.at c.table-table.ensures.count c.in-Some.ensures.is_at resumed.its_table resumed.is_at resumed.left in
     (sym before ∙ step.tells resumed.going (λ budget. let set = (says budget).1.is_set in let free = c.new-src.ensures.free in cc), refl)

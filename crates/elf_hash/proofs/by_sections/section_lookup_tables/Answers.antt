@@ -24,7 +24,7 @@ returns-in_err-versions c =
     let at = section_at bytes c.args.section in
     let told = c.in_ok-index.ensures.held bytes belongs in
     let hashed = rw c.min_hash_bytes.ensures at told in
-    let link = sym (c.section-header.ensures.stands bytes belongs).sh_link in
+    let link = sym (c.section-header.ensures.is_at bytes belongs).sh_link in
     (refused_back (hash_checks_from (min_hash_bytes c.args.kind) bytes at) (version_checks bytes at) _ hashed.0 (c.in_err-versions.ensures.held bytes belongs at link))))
 
 pub returns : goal.returns
@@ -32,6 +32,6 @@ returns c = finds _ (search rules) (λ bytes belongs.
     let at = section_at bytes c.args.section in
     let told = c.in_ok-index.ensures.held bytes belongs in
     let hashed = rw c.min_hash_bytes.ensures at told in
-    let is = c.section-header.ensures.stands bytes belongs in
+    let is = c.section-header.ensures.is_at bytes belongs in
     section_is bytes (hash_style_of c.args.kind) at _ _ _ hashed (c.in_ok-versions.ensures.held bytes belongs at (sym is.sh_link))
     (ap (λ (h : Ehdr). h.e_machine) c.header.ensures.value ∙ belongs.header.e_machine) refl (c.place.ensures.value ∙ place_is bytes c.args.section _ _ belongs) is.sh_offset is.sh_size c.len.ensures refl refl refl refl refl refl)

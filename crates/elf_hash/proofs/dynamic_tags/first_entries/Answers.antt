@@ -21,13 +21,13 @@ entries-preserved g c =
     let row = c.row-row.ensures in
     let index : c.row-row.result.index ≡ l.cursor.cursor.index = let x = row.its_index in let y = s.gives.next_index in omega arith in
     let offset : c.row-row.result.at ≡ at = row.its_offset ∙ (ap (λ (t : TableRange). row_at t c.row-row.result.index) s.gives.same_table ∙ ap (row_at l.cursor.cursor.table) index) in
-    let stands : (file : List ℕ) → c.args.src.now.seen.file ≡ Some file → IsDyn file at c.entry_in.result =
+    let is_at : (file : List ℕ) → c.args.src.now.seen.file ≡ Some file → IsDyn file at c.entry_in.result =
     λ file h. c.entry_in.ensures file at (row.its_bytes ∙ goes-row i.goes s file h c.requires.rows) in
     record {
       goes = goes-next i.goes s a.asks.reads a.keeps.account;
       found = λ file h.
           each_step file c.args.table at _ _ _ l.found _ (goes-fewer i.goes s file h) (goes-place i.goes s file h c.requires.rows)
-          (takes_at file at c.row-row.result.at c.entry_in.result l.found _ offset (c.with_entry-found.ensures file) (stands file h)) (i.found file h);
+          (takes_at file at c.row-row.result.at c.entry_in.result l.found _ offset (c.with_entry-found.ensures file) (is_at file h)) (i.found file h);
     }
 
 pub returns-clause-did : goal.returns-clause-did

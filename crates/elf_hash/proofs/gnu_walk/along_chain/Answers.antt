@@ -105,7 +105,7 @@ loop-at-preserved g c =
           let word = told.0.1 ∙ ap (λ (p : ℕ). field file p 4) (c.chain_at-at.ensures.value ∙ chain_is file at _ _ is) in
           let t : There file at c.args.hash says c.loop-at.read c.loop-at.tried c.loop-at.index c.in_ok-word.word c.hash_bits_match-is_wanted.result
           = record { place = _; along = told.0.0 at says is of holds; is = chained; word_is = word; of_hash = c.hash_bits_match-is_wanted.ensures } in
-          along_next file at c.args.hash says (g.T.Matcher.stands c.args.trial.now file) (g.T.Matcher.cost c.args.trial.now) _ _ _ _ _ t _ _ _ (told.1 says of) c.in_default.not-Some
+          along_next file at c.args.hash says (g.T.Matcher.is_at c.args.trial.now file) (g.T.Matcher.cost c.args.trial.now) _ _ _ _ _ t _ _ _ (told.1 says of) c.in_default.not-Some
           (sym c.is_chain_end.ensures ∙ c.if-is_chain_end.false) count (c.chain_at-at.ensures.value ∙ chain_is file at _ _ is));
     }
 

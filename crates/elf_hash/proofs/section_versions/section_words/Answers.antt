@@ -19,6 +19,6 @@ returns-in_err-words c =
 
 pub returns : goal.returns
 returns c = finds _ (search rules) (λ bytes belongs at link.
-    let here = (c.section.ensures.stands bytes belongs).sh_link in
+    let here = (c.section.ensures.is_at bytes belongs).sh_link in
     words_are bytes at _ (sym (c.words_section.ensures.held bytes belongs) ∙ c.in-Some.is) _ (c.in_ok-words.ensures.held bytes belongs)
     (c.place-head.ensures.value ∙ place_is bytes c.in-Some.section _ _ belongs) refl (sym here ∙ (c.if-section-link.false ∙ sym link)))

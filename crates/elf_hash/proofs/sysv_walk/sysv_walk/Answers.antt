@@ -88,7 +88,7 @@ loop-index-preserved g c =
           let some : 0 < c.loop-index.index = omega (arith, c.loop-index-test.true) in
           let index = sym (c.is_index.ensures.is file at is) ∙ c.if-not-is_index.false in
           let tries = comes file at c.args.hash says _ _ _ (told.0.0 at says is of) some index (omega (arith, few, is.chains)) in
-          along_next file at c.args.hash says (g.T.Matcher.stands c.args.trial.now file) (g.T.Matcher.cost c.args.trial.now) _ _ tries _ _ _ _
+          along_next file at c.args.hash says (g.T.Matcher.is_at c.args.trial.now file) (g.T.Matcher.cost c.args.trial.now) _ _ tries _ _ _ _
           c.from-in-loop-index.ensures (told.0.1 says of) c.in_default.not-Some (c.chain_at-at.ensures ∙ chain_is file at _ _ is) told.1);
     }
 

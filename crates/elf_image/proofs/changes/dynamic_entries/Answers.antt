@@ -51,4 +51,4 @@ returns-clause-did g c =
     let is = dynamic_is file _ some _ held in
     let at = segment_at file c.in-Some.segment in
     let reads = told at (sym (ap (λ (t : TableRange). t.at) is.1)) (sym (ap (λ (t : TableRange). t.count) is.1)) in
-    (costs _ (asked_within file _ some _ held), rows_found file c.in-Some.segment some is.0 c.in_ok-rows.rows _ reads.0 reads.1 (c.segment.ensures.stands file views).p_vaddr))
+    (costs _ (asked_within file _ some _ held), rows_found file c.in-Some.segment some is.0 c.in_ok-rows.rows _ reads.0 reads.1 (c.segment.ensures.is_at file views).p_vaddr))

@@ -44,7 +44,7 @@ entries-preserved g c =
     let at : ℕ = next_row l.cursor.cursor in
     let index : c.row-row.result.index ≡ l.cursor.cursor.index = let x = row.its_index in omega (arith, x, next) in
     let offset : c.row-row.result.at ≡ at = row.its_offset ∙ (ap (λ (t : TableRange). row_at t c.row-row.result.index) s.gives.same_table ∙ ap (row_at l.cursor.cursor.table) index) in
-    let stands : (file : List ℕ) → c.args.src.now.seen.file ≡ Some file → IsDyn file at c.entry_in-entry.result =
+    let is_at : (file : List ℕ) → c.args.src.now.seen.file ≡ Some file → IsDyn file at c.entry_in-entry.result =
     λ file h. c.entry_in-entry.ensures file at (row.its_bytes ∙ goes-row i.goes s file h c.requires.rows) in
     let so : (file : List ℕ) → c.args.src.now.seen.file ≡ Some file → RowsSoFar file c.args.table at (suc (entries_left file c.advance.new.self)) l.rows =
     λ file h. subst (λ (n : ℕ). RowsSoFar file c.args.table at n l.rows) (goes-fewer i.goes s file h) (i.found file h) in
@@ -54,12 +54,12 @@ entries-preserved g c =
       all = omega (arith, i.all, next, less);
       few = omega (arith, count, next, i.few);
       found = λ file h.
-          let here = subst (λ (x : ℕ). IsDyn file x c.entry_in-entry.result) (sym offset) (stands file h) in
+          let here = subst (λ (x : ℕ). IsDyn file x c.entry_in-entry.result) (sym offset) (is_at file h) in
           let are = c.with_row-rows.ensures.rows file here ∙ ap (λ (x : ℕ). rows_with file x (found_rows l.rows)) offset in
           rows_step file c.args.table at (entries_left file c.advance.new.self) l.rows (so file h) (next_row c.advance.new.self.cursor) c.with_row-rows.result
           (goes-place i.goes s file h c.requires.rows) count are;
       checked = λ file h place base whole.
-          let tag = c.tag_of.ensures file at (stands file h) in
+          let tag = c.tag_of.ensures file at (is_at file h) in
           let other = rw tag at (sym c.is_repeated.ensures ∙ c.if-is_repeated.false) in
           let step = checked_step file c.args.table at (entries_left file c.advance.new.self) l.rows (so file h) place base whole l.cursor.cursor.index i.few c.advance.new.self.cursor.index next other in
           step ∙ (ap (λ (n : ℕ). first_refusal (checks_left file place (p_offset file place) l.cursor.cursor.index n)) (sym (goes-fewer i.goes s file h)) ∙ i.checked file h place base whole);
@@ -77,8 +77,8 @@ returns-then-is_repeated-clause-did g c =
     let index : c.row-row.result.index ≡ l.cursor.cursor.index = let x = row.its_index in omega (arith, x, next) in
     let offset : c.row-row.result.at ≡ at = row.its_offset ∙ (ap (λ (t : TableRange). row_at t c.row-row.result.index) s.gives.same_table ∙ ap (row_at l.cursor.cursor.table) index) in
     rw (c.refused.ensures, offset) (CallDid-of (goes-reads i.goes a.asks.reads) (λ budget. cc) (λ file h place base whole other.
-    let stands = c.entry_in-entry.ensures file at (row.its_bytes ∙ goes-row i.goes s file h c.requires.rows) in
-    let tag = c.tag_of.ensures file at stands in
+    let is_at = c.entry_in-entry.ensures file at (row.its_bytes ∙ goes-row i.goes s file h c.requires.rows) in
+    let tag = c.tag_of.ensures file at is_at in
     let same = rw tag at (sym c.is_repeated.ensures ∙ c.if-is_repeated.true) in
     let so = subst (λ (n : ℕ). RowsSoFar file c.args.table at n l.rows) (goes-fewer i.goes s file h) (i.found file h) in
     sym (i.checked file h place base whole)

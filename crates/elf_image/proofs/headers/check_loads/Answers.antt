@@ -16,7 +16,7 @@ returns-in-Some-clause-held c = λ file views.
     let count : c.segments-segment-end.result ≡ e_phnum file = c.segments-segment-end.ensures ∙ (views.count ∙ views.belongs.header.e_phnum) in
     let more : e_phnum file - i ≡ suc (e_phnum file - suc i) = omega (arith, c.loop-segment-test.true, count) in
     let place : c.place.result ≡ segment_at file i = c.place.ensures.value ∙ ap (λ (p : ℕ). p + 56 * i) views.belongs.header.e_phoff in
-    let fault = c.in-Some.ensures.value file (segment_at file i) (c.segment.ensures.stands file views) (c.size-size.ensures ∙ views.belongs.size) in
+    let fault = c.in-Some.ensures.value file (segment_at file i) (c.segment.ensures.is_at file views) (c.size-size.ensures ∙ views.belongs.size) in
     rw (c.refused.ensures, place)
     (sym (c.loop-segment.invariant file views) ∙ (ap (λ (n : ℕ). first_refusal (loads_left file i n)) more ∙ loads_stop file i (e_phnum file - suc i) _ fault))
 
@@ -26,7 +26,7 @@ loop-segment-preserved c = λ file views.
     let count : c.segments-segment-end.result ≡ e_phnum file = c.segments-segment-end.ensures ∙ (views.count ∙ views.belongs.header.e_phnum) in
     let more : e_phnum file - i ≡ suc (e_phnum file - suc i) = omega (arith, c.loop-segment-test.true, count) in
     let next : i + 1 ≡ suc i = omega arith in
-    let passes = c.in_default.ensures.value file (segment_at file i) (c.segment.ensures.stands file views) (c.size-size.ensures ∙ views.belongs.size) in
+    let passes = c.in_default.ensures.value file (segment_at file i) (c.segment.ensures.is_at file views) (c.size-size.ensures ∙ views.belongs.size) in
     ap (λ (k : ℕ). first_refusal (loads_left file k (e_phnum file - k))) next
     ∙ (sym (loads_step file i (e_phnum file - suc i) passes) ∙ (ap (λ (n : ℕ). first_refusal (loads_left file i n)) (sym more) ∙ c.loop-segment.invariant file views))
 

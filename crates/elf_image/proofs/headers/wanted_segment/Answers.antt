@@ -13,14 +13,14 @@ returns-then-segment-segments-clause-held c = λ file views passes.
 pub returns-then-header-ne-PT_LOAD-clause-held : goal.returns-then-header-ne-PT_LOAD-clause-held
 returns-then-header-ne-PT_LOAD-clause-held c = λ file views passes.
     let count : c.segments.result ≡ e_phnum file = c.segments.ensures ∙ (views.count ∙ views.belongs.header.e_phnum) in
-    let is = c.segment-header.ensures.stands file views in
+    let is = c.segment-header.ensures.is_at file views in
     rw c.refused-then-header-ne-PT_LOAD.ensures
     (other_type file c.args.segment c.args.most (omega (arith, c.if-segment-segments.false, count)) (λ load. c.if-header-ne-PT_LOAD.true (is.p_type ∙ load)))
 
 pub returns-then-is_out_of_bounds-clause-held : goal.returns-then-is_out_of_bounds-clause-held
 returns-then-is_out_of_bounds-clause-held c = λ file views passes.
     let count : c.segments.result ≡ e_phnum file = c.segments.ensures ∙ (views.count ∙ views.belongs.header.e_phnum) in
-    let is = c.segment-header.ensures.stands file views in
+    let is = c.segment-header.ensures.is_at file views in
     let low : c.args.segment < e_phnum file = omega (arith, c.if-segment-segments.false, count) in
     let fits = loads_within file c.args.segment passes low (sym is.p_type ∙ c.if-header-ne-PT_LOAD.false) in
     let past : c.size.result < c.segment-header.result.p_offset + c.segment-header.result.p_filesz =
@@ -30,7 +30,7 @@ returns-then-is_out_of_bounds-clause-held c = λ file views passes.
 pub returns-then-header-most-clause-held : goal.returns-then-header-most-clause-held
 returns-then-header-most-clause-held c = λ file views passes.
     let count : c.segments.result ≡ e_phnum file = c.segments.ensures ∙ (views.count ∙ views.belongs.header.e_phnum) in
-    let is = c.segment-header.ensures.stands file views in
+    let is = c.segment-header.ensures.is_at file views in
     let place : c.place-then-header-most.result ≡ segment_at file c.args.segment = c.place-then-header-most.ensures.value ∙ ap (λ (p : ℕ). p + 56 * c.args.segment) views.belongs.header.e_phoff in
     rw (c.refused-then-header-most.ensures, place)
     (too_large file c.args.segment c.args.most (omega (arith, c.if-segment-segments.false, count)) (sym is.p_type ∙ c.if-header-ne-PT_LOAD.false) (omega (arith, c.if-header-most.true, is.p_memsz)))
@@ -38,7 +38,7 @@ returns-then-header-most-clause-held c = λ file views passes.
 pub returns-clause-held : goal.returns-clause-held
 returns-clause-held c = λ file views passes.
     let count : c.segments.result ≡ e_phnum file = c.segments.ensures ∙ (views.count ∙ views.belongs.header.e_phnum) in
-    let is = c.segment-header.ensures.stands file views in (
+    let is = c.segment-header.ensures.is_at file views in (
       small file c.args.segment c.args.most (omega (arith, c.if-segment-segments.false, count)) (sym is.p_type ∙ c.if-header-ne-PT_LOAD.false) (omega (arith, c.if-header-most.false, is.p_memsz)),
       is,
     )

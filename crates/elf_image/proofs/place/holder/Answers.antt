@@ -10,7 +10,7 @@ pub returns-then-holds_place-clause-held : goal.returns-then-holds_place-clause-
 unfolding holder_of
 returns-then-holds_place-clause-held c = λ bytes views.
     let count : c.segments-index-end.result ≡ e_phnum bytes = c.segments-index-end.ensures ∙ (views.count ∙ views.belongs.header.e_phnum) in
-    let here = sym (c.if-holds_place.ensures.value bytes (segment_at bytes c.loop-index.index) (c.segment.ensures.stands bytes views)) in
+    let here = sym (c.if-holds_place.ensures.value bytes (segment_at bytes c.loop-index.index) (c.segment.ensures.is_at bytes views)) in
     sym (first_that-some (λ (i : ℕ). holds_in_memory bytes (segment_at bytes i) c.args.address c.args.width) 0 (e_phnum bytes) c.loop-index.index (omega arith) (omega (arith, c.loop-index-test.true, count))
     (λ j low high. c.loop-index.invariant bytes views j high) here)
 
@@ -18,7 +18,7 @@ pub loop-index-preserved : goal.loop-index-preserved
 loop-index-preserved c = λ bytes views i low.
     elim (cases_eq i c.loop-index.index) [
       | inl same ↦
-          let other = sym (c.if-holds_place.ensures.value bytes (segment_at bytes c.loop-index.index) (c.segment.ensures.stands bytes views)) in
+          let other = sym (c.if-holds_place.ensures.value bytes (segment_at bytes c.loop-index.index) (c.segment.ensures.is_at bytes views)) in
           ap (λ (k : ℕ). holds_in_memory bytes (segment_at bytes k) c.args.address c.args.width) same ∙ other
       | inr other ↦ c.loop-index.invariant bytes views i (omega arith)
     ]

@@ -5,4 +5,4 @@ use Rattle.elf_image.proofs.rela_rows.front_entry.Goals as goal
 pub returns : goal.returns
 returns c = λ file at is.
     let found = rw c.unwrap.ensures at c.first_chunk.ensures.cases in
-    (c.decode.ensures.stands file at (found.same ∙ is), addend-fits file at c.args.bytes.now is (λ k. let f = c.type_inv.bytes k in omega (arith, f)))
+    (c.decode.ensures.is_at file at (found.same ∙ is), addend-fits file at c.args.bytes.now is (λ k. let f = c.type_inv.bytes k in omega (arith, f)))

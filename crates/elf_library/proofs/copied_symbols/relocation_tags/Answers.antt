@@ -20,15 +20,15 @@ entries-preserved g c =
     let a = c.in_ok-advance.ensures in
     let new = c.advance.new.self in
     let s = given l.src.seen.file l.cursor new c.in_ok-advance.field-0 c.if-branch.true a.steps in
-    let stands : (file : List ℕ) → c.args.src.now.seen.file ≡ Some file → IsDyn file (next_row l.cursor.cursor) c.entry_in-entry.result =
+    let is_at : (file : List ℕ) → c.args.src.now.seen.file ≡ Some file → IsDyn file (next_row l.cursor.cursor) c.entry_in-entry.result =
     λ file h. c.entry_in-entry.ensures file (next_row l.cursor.cursor) (c.row.ensures.its_bytes ∙ goes-row i.goes s file h c.requires.rows) in
     record {
       goes = goes-next i.goes s a.asks.reads a.keeps.account;
       address = λ file h.
-          ap (λ (x : Option ℕ). first_value x (dynamic_value file (next_row new.cursor) (entries_left file new) DT_RELA)) (c.first_of-address.ensures file (next_row l.cursor.cursor) (stands file h))
+          ap (λ (x : Option ℕ). first_value x (dynamic_value file (next_row new.cursor) (entries_left file new) DT_RELA)) (c.first_of-address.ensures file (next_row l.cursor.cursor) (is_at file h))
           ∙ value-step file l.cursor new DT_RELA l.address (goes-fewer i.goes s file h) (goes-place i.goes s file h c.requires.rows) ∙ i.address file h;
       size = λ file h.
-          ap (λ (x : Option ℕ). first_value x (dynamic_value file (next_row new.cursor) (entries_left file new) DT_RELASZ)) (c.first_of-size.ensures file (next_row l.cursor.cursor) (stands file h))
+          ap (λ (x : Option ℕ). first_value x (dynamic_value file (next_row new.cursor) (entries_left file new) DT_RELASZ)) (c.first_of-size.ensures file (next_row l.cursor.cursor) (is_at file h))
           ∙ value-step file l.cursor new DT_RELASZ l.size (goes-fewer i.goes s file h) (goes-place i.goes s file h c.requires.rows) ∙ i.size file h;
     }
 

@@ -14,7 +14,7 @@ returns-in_err-names g c =
     (λ file told costs views.
     let place = c.place-place.ensures.value ∙ place_is file _ _ c.args.segment views in
     let size = c.size.ensures ∙ views.belongs.size in
-    range_stops file (segment_at file c.args.segment) _ (rw (place, size) at (c.in_err-names.ensures.value file _ (c.segment.ensures.stands file views)))))
+    range_stops file (segment_at file c.args.segment) _ (rw (place, size) at (c.in_err-names.ensures.value file _ (c.segment.ensures.is_at file views)))))
 
 pub returns-in_err-check_end : goal.returns-in_err-check_end
 returns-in_err-check_end g c =
@@ -24,7 +24,7 @@ returns-in_err-check_end g c =
     (λ file told costs views.
     let place = c.place-place.ensures.value ∙ place_is file _ _ c.args.segment views in
     let size = c.size.ensures ∙ views.belongs.size in
-    end_stops file (segment_at file c.args.segment) c.in_ok-names.names (rw (place, size) at (c.in_ok-names.ensures.value file _ (c.segment.ensures.stands file views))) _ place _ told))
+    end_stops file (segment_at file c.args.segment) c.in_ok-names.names (rw (place, size) at (c.in_ok-names.ensures.value file _ (c.segment.ensures.is_at file views))) _ place _ told))
 
 pub returns : goal.returns
 returns g c =
@@ -32,5 +32,5 @@ returns g c =
     (λ file told costs views.
     let place = c.place-place.ensures.value ∙ place_is file _ _ c.args.segment views in
     let size = c.size.ensures ∙ views.belongs.size in
-    path_tells file (segment_at file c.args.segment) c.in_ok-names.names (rw (place, size) at (c.in_ok-names.ensures.value file _ (c.segment.ensures.stands file views))) _ place
+    path_tells file (segment_at file c.args.segment) c.in_ok-names.names (rw (place, size) at (c.in_ok-names.ensures.value file _ (c.segment.ensures.is_at file views))) _ place
     c.whole_name.new.name _ told.0 told.1)

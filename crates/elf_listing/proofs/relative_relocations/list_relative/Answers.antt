@@ -14,8 +14,8 @@ use Rattle.elf_listing.proofs.relative_relocations.list_relative.Goals as goal
 pub returns-then-section-ne-SHT_RELR : goal.returns-then-section-ne-SHT_RELR
 unfolding relative_relocations
 returns-then-section-ne-SHT_RELR g c = ListingCalls-nothing _ _ _ _ (λ file held.
-    let stands = c.section.ensures.stands file (c.args.listing.now.loaded.belongs file held) in
-    no_table relative_relocations file _ _ _ _ (ne_eqb _ _ (λ same. c.if-section-ne-SHT_RELR.true (stands.sh_type ∙ same))))
+    let is_at = c.section.ensures.is_at file (c.args.listing.now.loaded.belongs file held) in
+    no_table relative_relocations file _ _ _ _ (ne_eqb _ _ (λ same. c.if-section-ne-SHT_RELR.true (is_at.sh_type ∙ same))))
 
 pub returns-in_err-table : goal.returns-in_err-table
 unfolding relative_relocations
@@ -24,7 +24,7 @@ returns-in_err-table g c =
     rw (p.1, p.2) (ListingCalls-refused _ _ _ _ c.in_err-table.ensures.lies (λ file held.
     let belongs = c.args.listing.now.loaded.belongs file held in
     let at = section_at file c.args.index in
-    let kind = sym (c.section.ensures.stands file belongs).sh_type ∙ c.if-section-ne-SHT_RELR.false in
+    let kind = sym (c.section.ensures.is_at file belongs).sh_type ∙ c.if-section-ne-SHT_RELR.false in
     table_fails relative_relocations file _ _ at (eq-eqb _ _ kind) _ _ (empty_fails (sh_size file at) _ _ (table_checks file at 8) _ (sym (c.in_err-table.ensures.held file belongs)))))
 
 pub list_words-requires : goal.list_words-requires
@@ -46,7 +46,7 @@ returns g c =
     ListingCalls-within _ _ _ _ _ _ _ (omega (arith, cost)) c.list_words.ensures (λ file held.
     let belongs = c.args.listing.now.loaded.belongs file held in
     let at = section_at file c.args.index in
-    let kind = sym (c.section.ensures.stands file belongs).sh_type ∙ c.if-section-ne-SHT_RELR.false in
+    let kind = sym (c.section.ensures.is_at file belongs).sh_type ∙ c.if-section-ne-SHT_RELR.false in
     let is = relr_table_is file at _ (sym (c.in_ok-table.ensures.held file belongs)) in
     WroteSome-as _ _ _ (table_passes relative_relocations file style c.args.index at (eq-eqb _ _ kind) is.0 ∙ (ap (each (relr_rows file style c.args.index at) 0) (sym is.1.0)
     ∙ section_words file style c.args.index at _ _ is.1.1))

@@ -32,10 +32,10 @@ returns-in_err-linked_suffixes g c =
     let fewer = walks_fewer headers (sh_link (row f.store.now c.args.rows.now.section) 0) (linked_count c.args.rows.now.linked) count f.loaded.size some in
     rw (p.1, p.2) (ListingCalls-unread _ _ _ _ _ _ (walks_within headers (sh_link (row f.store.now c.args.rows.now.section) 0) f.loaded.size cap (relocation_size c.args.rows.now.has_addends) (24 + name_bytes cap) (linked_count c.args.rows.now.linked) count _ fewer within) fetches (λ file held.
     let belongs = c.args.listing.now.loaded.belongs file held in
-    let stands = c.section-link.ensures.stands file belongs in
-    let kind = sym stands.sh_type ∙ (c.section-link.ensures.fields.sh_type ∙ c.requires.entries.kind) in
+    let is_at = c.section-link.ensures.is_at file belongs in
+    let kind = sym is_at.sh_type ∙ (c.section-link.ensures.fields.sh_type ∙ c.requires.entries.kind) in
     rw fetches.1
-    (entries_refused c.args.rows.now.has_addends file (style_of c.args.listing.now.style) c.args.rows.now.section (eq-eqb _ _ kind) _ _ _ filled (c.requires.entries.held file belongs) _ (rw stands.sh_link at (told.read file held)))))
+    (entries_refused c.args.rows.now.has_addends file (style_of c.args.listing.now.style) c.args.rows.now.section (eq-eqb _ _ kind) _ _ _ filled (c.requires.entries.held file belongs) _ (rw is_at.sh_link at (told.read file held)))))
 
 pub returns-then-not-branch : goal.returns-then-not-branch
 unfolding relocations_with_versions relocations
@@ -54,10 +54,10 @@ returns-then-not-branch g c =
     let fewer = walks_fewer headers (sh_link (row f.store.now c.args.rows.now.section) 0) (linked_count c.args.rows.now.linked) count f.loaded.size some in
     ListingCalls-after {Y = Option VersionLookup} _ _ _ None _ _ _ _ _ (rw fetches.0.same_style (rows_plain _ _ _ _ _ (plain_within headers (sh_link (row f.store.now c.args.rows.now.section) 0) f.loaded.size cap (relocation_size c.args.rows.now.has_addends) (24 + name_bytes cap) (linked_count c.args.rows.now.linked) count _ fewer within))) fetches c.list_rows.ensures (λ file held.
     let belongs = c.args.listing.now.loaded.belongs file held in
-    let stands = c.section-link.ensures.stands file belongs in
-    let kind = sym stands.sh_type ∙ (c.section-link.ensures.fields.sh_type ∙ c.requires.entries.kind) in
+    let is_at = c.section-link.ensures.is_at file belongs in
+    let kind = sym is_at.sh_type ∙ (c.section-link.ensures.fields.sh_type ∙ c.requires.entries.kind) in
     let found = c.requires.entries.held file belongs in
-    let none = rw stands.sh_link at (told.read file held) in
+    let none = rw is_at.sh_link at (told.read file held) in
     let shown = rw (fetches.0.same_style, fetches.1) at (c.list_rows.ensures.shows file (fetches.2.reads.keeps.same_file ∙ held) (λ rows. (found.refers rows, found.placed, tt))) in
     WroteSome-as _ _ _ (entries_plain c.args.rows.now.has_addends file (style_of c.args.listing.now.style) c.args.rows.now.section (eq-eqb _ _ kind) _ _ filled found none) shown)
 
@@ -79,9 +79,9 @@ returns g c =
     let pays = (rw link at told.pays) cap in
     ListingCalls-after {Y = Option VersionLookup} _ _ _ None _ _ _ _ _ (rw fetches.0.same_style (rows_within headers (sh_link (row f.store.now c.args.rows.now.section) 0) f.loaded.size cap (relocation_size c.args.rows.now.has_addends) (24 + name_bytes cap) (linked_count c.args.rows.now.linked) count _ fewer within (2 + name_bytes cap) pays)) fetches c.list_rows-2.ensures (λ file held.
     let belongs = c.args.listing.now.loaded.belongs file held in
-    let stands = c.section-link.ensures.stands file belongs in
-    let kind = sym stands.sh_type ∙ (c.section-link.ensures.fields.sh_type ∙ c.requires.entries.kind) in
+    let is_at = c.section-link.ensures.is_at file belongs in
+    let kind = sym is_at.sh_type ∙ (c.section-link.ensures.fields.sh_type ∙ c.requires.entries.kind) in
     let found = c.requires.entries.held file belongs in
-    let some = linked_found _ _ _ (found.refers filled) (rw stands.sh_link at (told.read file held)) in
+    let some = linked_found _ _ _ (found.refers filled) (rw is_at.sh_link at (told.read file held)) in
     let shown = rw (fetches.0.same_style, fetches.1) at (c.list_rows-2.ensures.shows file (fetches.2.reads.keeps.same_file ∙ held) (λ rows. (found.refers rows, found.placed, some.1))) in
     WroteSome-as _ _ _ (entries_shown c.args.rows.now.has_addends file (style_of c.args.listing.now.style) c.args.rows.now.section (eq-eqb _ _ kind) _ _ found some.0) shown)

@@ -15,7 +15,7 @@ use Rattle.elf_listing.proofs.relocations.list_with_versions.Goals as goal
 pub returns-then-is_empty : goal.returns-then-is_empty
 returns-then-is_empty g c = ListingCalls-nothing _ _ _ _ (λ file held.
     let belongs = c.args.listing.now.loaded.belongs file held in
-    let kind = sym (c.section-link.ensures.stands file belongs).sh_type ∙ (c.section-link.ensures.fields.sh_type ∙ c.requires.kind) in
+    let kind = sym (c.section-link.ensures.is_at file belongs).sh_type ∙ (c.section-link.ensures.fields.sh_type ∙ c.requires.kind) in
     let none = c.is_empty.ensures.0 c.if-is_empty.true in
     no_entries c.args.rows.now.has_addends file _ _ (eq-eqb _ _ kind) _ _ _ none (c.requires.held file belongs))
 
@@ -29,11 +29,11 @@ returns-then-is_none g c =
     let cost = plain_alone (store_sections f.store.now) (sh_link (row f.store.now c.args.rows.now.section) 0) f.loaded.size cap (relocation_size c.args.rows.now.has_addends) (24 + name_bytes cap) c.args.table.count _ within in
     ListingCalls-within _ _ _ _ _ _ _ cost c.list_rows.ensures (λ file held.
     let belongs = c.args.listing.now.loaded.belongs file held in
-    let stands = c.section-link.ensures.stands file belongs in
-    let kind = sym stands.sh_type ∙ (c.section-link.ensures.fields.sh_type ∙ c.requires.kind) in
+    let is_at = c.section-link.ensures.is_at file belongs in
+    let kind = sym is_at.sh_type ∙ (c.section-link.ensures.fields.sh_type ∙ c.requires.kind) in
     let filled = ne_eqb _ 0 (λ zero. false≢true (sym c.if-is_empty.false ∙ c.is_empty.ensures.1 zero)) in
     let some : 0 < c.args.table.count = grind (arith, filled) in
     let found = c.requires.held file belongs in
-    let none = sym (rw stands.sh_link at (c.version_numbers_of.ensures.held file belongs)) ∙ none_found _ _ c.is_none.ensures c.if-is_none.true in
+    let none = sym (rw is_at.sh_link at (c.version_numbers_of.ensures.held file belongs)) ∙ none_found _ _ c.is_none.ensures c.if-is_none.true in
     WroteSome-as _ _ _ (entries_unnumbered c.args.rows.now.has_addends file (style_of c.args.listing.now.style) c.args.rows.now.section (eq-eqb _ _ kind) _ _ found (unnumbered file _ none))
     (c.list_rows.ensures.shows file held (λ rows. (found.refers rows, found.placed, tt))))

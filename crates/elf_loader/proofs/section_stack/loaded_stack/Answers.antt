@@ -17,7 +17,7 @@ returns-in-Some g c =
     CallDid-as _ (omega arith) c.in_ok-found.ensures.did
     (λ file told costs belongs.
     stack_some file c.in-Some.index (told belongs ∙ c.in-Some.is)
-    ∙ (ap (λ (n : ℕ). Some (has_bits n 4)) (sym (c.section.ensures.stands file belongs).sh_flags) ∙ ap (λ (b : Bool). Some b) (sym c.has_bits.ensures)))
+    ∙ (ap (λ (n : ℕ). Some (has_bits n 4)) (sym (c.section.ensures.is_at file belongs).sh_flags) ∙ ap (λ (b : Bool). Some b) (sym c.has_bits.ensures)))
 
 pub returns-in-None : goal.returns-in-None
 returns-in-None g c =

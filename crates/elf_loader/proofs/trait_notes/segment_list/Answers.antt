@@ -11,8 +11,8 @@ pub returns-then-header-ne-PT_NOTE : goal.returns-then-header-ne-PT_NOTE
 returns-then-header-ne-PT_NOTE g c = record {
   did = CallDid-as _ (omega arith) (CallDid-none c.args.src.now)
       (λ file told costs views.
-      let stands = c.segment-header.ensures.stands file views in
-      record { costs = costs _ (omega arith); finds = list_other file c.args.segment (ne_eqb _ _ (λ same. c.if-header-ne-PT_NOTE.true (stands.p_type ∙ same))) });
+      let is_at = c.segment-header.ensures.is_at file views in
+      record { costs = costs _ (omega arith); finds = list_other file c.args.segment (ne_eqb _ _ (λ same. c.if-header-ne-PT_NOTE.true (is_at.p_type ∙ same))) });
   within = tt;
 }
 
@@ -23,8 +23,8 @@ returns-in_err-table g c =
     (record {
       did = CallDid-as _ (omega arith) (CallDid-stop _ c.in_err-table.ensures.lies (CallDid-none c.args.src.now))
           (λ file told costs views.
-          let stands = c.segment-header.ensures.stands file views in
-          let is = eq-eqb _ _ (sym stands.p_type ∙ c.if-header-ne-PT_NOTE.false) in
+          let is_at = c.segment-header.ensures.is_at file views in
+          let is = eq-eqb _ _ (sym is_at.p_type ∙ c.if-header-ne-PT_NOTE.false) in
           record { costs = costs _ (omega arith); finds = segment_fails file c.args.segment is _ (c.in_err-table.ensures.held file views) });
       within = tt;
     })
@@ -34,8 +34,8 @@ returns-clause-did g c =
     let fits = count_fitting _ _ c.in_ok-table.ensures.lies.entry c.in_ok-table.ensures.lies.within in
     CallDid-as _ (omega (arith, fits, c.requires.size)) c.first_list.ensures.did
     (λ file told costs views.
-    let stands = c.segment-header.ensures.stands file views in
-    let is = eq-eqb _ _ (sym stands.p_type ∙ c.if-header-ne-PT_NOTE.false) in
+    let is_at = c.segment-header.ensures.is_at file views in
+    let is = eq-eqb _ _ (sym is_at.p_type ∙ c.if-header-ne-PT_NOTE.false) in
     let held = c.in_ok-table.ensures.held file views in
     let asked = segment_asked file c.args.segment is _ held in
-    record { costs = costs _ (omega (arith, asked)); finds = segment_told file c.args.segment is _ held _ (rw stands.p_align at told) })
+    record { costs = costs _ (omega (arith, asked)); finds = segment_told file c.args.segment is _ held _ (rw is_at.p_align at told) })

@@ -7,7 +7,7 @@ pub returns-then-is_writable_code : goal.returns-then-is_writable_code
 returns-then-is_writable_code c = λ file views.
     let count = c.segments-count.ensures in
     let headers = views.belongs.header.e_phnum in
-    let is = sym (c.is_writable_code.ensures file c.segments.segment (c.segment.ensures.stands file views)) ∙ c.if-is_writable_code.true in
+    let is = sym (c.is_writable_code.ensures file c.segments.segment (c.segment.ensures.is_at file views)) ∙ c.if-is_writable_code.true in
     sym (c.segments.invariant.left file views ∙ writable_here file c.segments.segment (omega (arith, count, views.count, headers, c.segments-test.true)) is)
 
 pub segments-preserved : goal.segments-preserved
@@ -15,7 +15,7 @@ segments-preserved c = record {
   left = λ file views.
       let count = c.segments-count.ensures in
       let headers = views.belongs.header.e_phnum in
-      let isnt = sym (c.is_writable_code.ensures file c.segments.segment (c.segment.ensures.stands file views)) ∙ c.if-is_writable_code.false in
+      let isnt = sym (c.is_writable_code.ensures file c.segments.segment (c.segment.ensures.is_at file views)) ∙ c.if-is_writable_code.false in
       c.segments.invariant.left file views ∙ writable_more file c.segments.segment _ refl (omega (arith, count, views.count, headers, c.segments-test.true)) isnt;
 }
 

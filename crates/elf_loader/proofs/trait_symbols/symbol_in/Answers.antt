@@ -5,4 +5,4 @@ use Rattle.elf_loader.proofs.trait_symbols.symbol_in.Goals as goal
 pub returns : goal.returns
 returns c = λ file at is.
     let found = rw c.unwrap.ensures at c.first_chunk.ensures.cases in
-    c.decode.ensures.stands file at (found.same ∙ take_all 24 c.args.row.now.bytes.now (omega (arith, c.requires)) ∙ is)
+    c.decode.ensures.is_at file at (found.same ∙ take_all 24 c.args.row.now.bytes.now (omega (arith, c.requires)) ∙ is)

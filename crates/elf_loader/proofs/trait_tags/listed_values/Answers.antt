@@ -18,13 +18,13 @@ entries-preserved g c =
     let new = c.advance.new.self in
     let s = given l.src.seen.file l.cursor new c.in_ok-advance.field-0 c.if-branch.true a.steps in
     let at : ℕ = next_row l.cursor.cursor in
-    let stands : (file : List ℕ) → c.args.src.now.seen.file ≡ Some file → IsDyn file at c.entry_in-entry.result =
+    let is_at : (file : List ℕ) → c.args.src.now.seen.file ≡ Some file → IsDyn file at c.entry_in-entry.result =
     λ file h. c.entry_in-entry.ensures file at (c.row.ensures.its_bytes ∙ goes-row i.goes s file h c.requires.rows) in
     record {
       goes = goes-next i.goes s a.asks.reads a.keeps.account;
       found = λ file h.
           values_step file c.args.table l.cursor new l.found _ (goes-fewer i.goes s file h) (goes-place i.goes s file h c.requires.rows)
-          (c.with_entry-found.ensures file at (stands file h)) (i.found file h);
+          (c.with_entry-found.ensures file at (is_at file h)) (i.found file h);
     }
 
 pub returns-clause-reads : goal.returns-clause-reads

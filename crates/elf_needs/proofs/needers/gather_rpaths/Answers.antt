@@ -1,7 +1,7 @@
 use Rattle.std.proofs.Common.{◌++◌, [], ap, ◌∙◌, arith}
 use Rattle.std.specs.List.{cons_option}
 use Rattle.elf_needs.specs.Steps.{dirs_in}
-use Rattle.elf_needs.proofs.FolderLaws.{rpath_all, rpath_more}
+use Rattle.elf_needs.proofs.DirectoryLaws.{rpath_all, rpath_more}
 use Rattle.elf_needs.proofs.needers.gather_rpaths.Goals as goal
 
 pub loop-needer-preserved : goal.loop-needer-preserved

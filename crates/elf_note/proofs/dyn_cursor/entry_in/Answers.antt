@@ -8,4 +8,4 @@ unwrap-requires c = grind arith
 pub returns : goal.returns
 returns c = λ file at is.
     let found = rw c.unwrap.ensures at c.first_chunk.ensures.cases in
-    c.decode.ensures.stands file at (found.same ∙ take_all 16 c.args.row.now.bytes.now (omega (arith, c.requires)) ∙ is)
+    c.decode.ensures.is_at file at (found.same ∙ take_all 16 c.args.row.now.bytes.now (omega (arith, c.requires)) ∙ is)

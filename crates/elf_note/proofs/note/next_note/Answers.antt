@@ -27,13 +27,13 @@ returns-in_default-clause-tells g c = λ file h a f.
     let sized = c.args.src.now.seen.sized file h in
     let some = c.requires.within (omega arith) in
     let ends : range_end w ≤ length file = omega arith in
-    let stands : IsNoteHead file w.at head = c.decode-head.ensures.stands file w.at (c.in_ok-take.ensures.taken file h a) in
+    let is_at : IsNoteHead file w.at head = c.decode-head.ensures.is_at file w.at (c.in_ok-take.ensures.taken file h a) in
     let tm = c.in_ok-take.ensures.reads.went.moves.same_end in
     let ta = c.in_ok-take.ensures.at in
     let lf = c.left-2.ensures.value in
     let short = c.in_default.ensures in
     let few : bytes_left w < descriptor_start c.args.align head.namesz head.descsz + head.descsz = omega arith in
-    left-short c.args.align file w head stands ends many few
+    left-short c.args.align file w head is_at ends many few
 
 -- the offsets of the parts of a note that is read, and the window after it
 laid : (g : Over) (c : In_ok-read_rest g)
@@ -85,13 +85,13 @@ returns-clause-tells g c = λ file h a.
     let sized = c.args.src.now.seen.sized file h in
     let some = c.requires.within (omega arith) in
     let ends : range_end w ≤ length file = omega arith in
-    let stands : IsNoteHead file w.at head = c.decode-head.ensures.stands file w.at (c.in_ok-take.ensures.taken file h a) in
+    let is_at : IsNoteHead file w.at head = c.decode-head.ensures.is_at file w.at (c.in_ok-take.ensures.taken file h a) in
     let f3 : c.from.result ≡ head.namesz = c.from.ensures in
     let size : length c.read_rest.new.desc ≡ c.min-shown.result = search (rules, c.read_rest.auto.desc) in
     let rest : c.read_rest.new.desc ≡ slice file c.at-desc_at.result c.min-shown.result =
     c.in_ok-read_rest.ensures.read file h2 a2 ∙ ap (slice file c.skip.new.self.at) (sym c.read_rest.auto.desc ∙ size) ∙ ap (λ (x : ℕ). slice file x c.min-shown.result) (sym c.at-desc_at.ensures.value) in
     found-tells file c.args.align c.args.cap.bytes w c.read_rest.new.window head c.in_ok-name_end.name_end c.read_name.new.name _ c.at-at.result c.at-desc_at.result c.min-shown.result
-    c.at-at.ensures.value stands ends many all.1 all.2 all.3
+    c.at-at.ensures.value is_at ends many all.1 all.2 all.3
     (λ note n l. c.in_ok-name_end.ensures.read file h1 a1 note (n ∙ ap (λ (x : ℕ). slice file x head.namesz) (sym c.in_ok-take.ensures.at) ∙ ap (slice file c.take.new.window.at) (sym f3)) (l ∙ sym f3))
     all.0 (c.min-shown.ensures ∙ ap (λ (x : ℕ). min x 32) c.from-3.ensures) (take_at c.read_rest.new.desc _ c.min-shown.result size ∙ rest)
 

@@ -24,7 +24,7 @@ returns-in_ok-read-in-Definition g c =
       did = CallDid-as _ (omega arith) c.in_ok-read-in-Definition.ensures.did
           (λ file told costs held words.
           let there : table + (place + c.from.result) ≡ table + place + c.args.words.now.aux = omega (arith, c.from.ensures) in
-          c.word.ensures.stands file (table + (place + c.from.result)) (told held)
+          c.word.ensures.is_at file (table + (place + c.from.result)) (told held)
           ∙ ap (λ (x : ℕ). field file x 4) there ∙ definition-index file (table + place) c.args.words.now words);
     })
 

@@ -45,11 +45,11 @@ returns-clause-did g c =
     let leads = rw same at c.behind.ensures.leads in
     CallDid-as _ (asks-name h s.kind) (CallDid-then c.in_ok-words.ensures.did c.in_ok-name.ensures.did)
     (λ file told costs held knows.
-    let stands = told.0 held in
-    let there = leads file knows stands in
+    let is_at = told.0 held in
+    let there = leads file knows is_at in
     record {
-      passes = record-checked file h.table.at h.table.count s words c.requires.has.inside stands ∙ sym checked ∙ passes;
-      is = c.given.ensures.is file h.table.at at stands (told.1 held stands);
+      passes = record-checked file h.table.at h.table.count s words c.requires.has.inside is_at ∙ sym checked ∙ passes;
+      is = c.given.ensures.is file h.table.at at is_at (told.1 held is_at);
       leads = there.leads;
       knows = there.knows;
     })

@@ -8,19 +8,19 @@ pub returns-in_ok-read-in-Definition : goal.returns-in_ok-read-in-Definition
 returns-in_ok-read-in-Definition g c =
     let at = c.args.held.now.table.at + c.args.stand.now.place in
     rw c.in-Definition.is
-    (record { did = CallDid-as _ (omega arith) c.in_ok-read-in-Definition.ensures.did (λ file told costs held. c.of_definition.ensures file at (c.decode.ensures.stands file at (told held))) })
+    (record { did = CallDid-as _ (omega arith) c.in_ok-read-in-Definition.ensures.did (λ file told costs held. c.of_definition.ensures file at (c.decode.ensures.is_at file at (told held))) })
 
 pub returns-in_ok-read-in-File : goal.returns-in_ok-read-in-File
 returns-in_ok-read-in-File g c =
     let at = c.args.held.now.table.at + c.args.stand.now.place in
     rw c.in-File.is
-    (record { did = CallDid-as _ (omega arith) c.in_ok-read-in-File.ensures.did (λ file told costs held. c.of_file.ensures file at (c.decode-in-File.ensures.stands file at (told held))) })
+    (record { did = CallDid-as _ (omega arith) c.in_ok-read-in-File.ensures.did (λ file told costs held. c.of_file.ensures file at (c.decode-in-File.ensures.is_at file at (told held))) })
 
 pub returns-in_ok-read-in-Need : goal.returns-in_ok-read-in-Need
 returns-in_ok-read-in-Need g c =
     let at = c.args.held.now.table.at + c.args.stand.now.place in
     rw c.in-Need.is
-    (record { did = CallDid-as _ (omega arith) c.in_ok-read-in-Need.ensures.did (λ file told costs held. c.of_need.ensures file at (c.decode-in-Need.ensures.stands file at (told held))) })
+    (record { did = CallDid-as _ (omega arith) c.in_ok-read-in-Need.ensures.did (λ file told costs held. c.of_need.ensures file at (c.decode-in-Need.ensures.is_at file at (told held))) })
 
 pub read-requires : goal.read-requires
 read-requires g c = let inside = rw c.in-Definition.is at c.requires.inside in record { has = record { within = c.requires.within; inside = inside; low = c.requires.low }; small = omega arith; some = omega arith }

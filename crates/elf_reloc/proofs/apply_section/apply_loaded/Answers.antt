@@ -49,30 +49,30 @@ returns g c =
           let belongs = c.requires.opened.belongs file held in
           let found = c.in_ok-found.ensures.held file belongs in
           let long = slice-size file c.in_ok-found.found.0 c.in_ok-found.found.1 (omega (arith, c.in_ok-found.ensures.within, belongs.size)) in
-          let stands : IsApplyTarget file c.args.store.now.slots now c.in_ok-found.found.0 =
+          let is_at : IsApplyTarget file c.args.store.now.slots now c.in_ok-found.found.0 =
           record { passed = before_request file c.args.store.now.slots c.args.section c.args.layout.now (length (entries_for file c.args.section)) passed belongs.passes ∙ found.0; bytes = found.1 } in
           let early = loaded_early file c.args.store.now.slots passed belongs.passes in
           let before : ℕ = c.args.src.now.asked in
-          let all = cost_stands file c.args.store.now.slots now c.in_ok-found.found.0 (1 + windows c.in_ok-found.found.1) belongs early long stands in
-          let twice = cost_stands file c.args.store.now.slots now c.in_ok-found.found.0 2 belongs early long stands in
-          let same = ap (cost_with file c.args.store.now.slots c.args.section c.args.layout.now) (windows_same file c.args.store.now.slots now c.in_ok-found.found.0 long stands) in
+          let all = cost_stands file c.args.store.now.slots now c.in_ok-found.found.0 (1 + windows c.in_ok-found.found.1) belongs early long is_at in
+          let twice = cost_stands file c.args.store.now.slots now c.in_ok-found.found.0 2 belongs early long is_at in
+          let same = ap (cost_with file c.args.store.now.slots c.args.section c.args.layout.now) (windows_same file c.args.store.now.slots now c.in_ok-found.found.0 long is_at) in
           let within = order_within file c.args.store.now.slots c.args.section c.args.layout.now (64 + 64 * e_shnum file + c.apply_target.new.src.asked - before)
-          (λ never. let once = c.apply_target.ensures.once file held c.args.store.now.slots stands never in omega (arith, twice, once.0))
+          (λ never. let once = c.apply_target.ensures.once file held c.args.store.now.slots is_at never in omega (arith, twice, once.0))
           (omega (arith, all, same, c.apply_target.ensures.reads.at_most)) in
           omega (arith, within, c.apply_target.ensures.reads.grows);
       enough = λ file held passed.
           let belongs = c.requires.opened.belongs file held in
           let found = c.in_ok-found.ensures.held file belongs in
           let long = slice-size file c.in_ok-found.found.0 c.in_ok-found.found.1 (omega (arith, c.in_ok-found.ensures.within, belongs.size)) in
-          let stands : IsApplyTarget file c.args.store.now.slots now c.in_ok-found.found.0 =
+          let is_at : IsApplyTarget file c.args.store.now.slots now c.in_ok-found.found.0 =
           record { passed = before_request file c.args.store.now.slots c.args.section c.args.layout.now (length (entries_for file c.args.section)) passed belongs.passes ∙ found.0; bytes = found.1 } in
           let early = loaded_early file c.args.store.now.slots passed belongs.passes in
-          let all = cost_stands file c.args.store.now.slots now c.in_ok-found.found.0 (1 + windows c.in_ok-found.found.1) belongs early long stands in
-          let twice = cost_stands file c.args.store.now.slots now c.in_ok-found.found.0 2 belongs early long stands in
-          let same = ap (cost_with file c.args.store.now.slots c.args.section c.args.layout.now) (windows_same file c.args.store.now.slots now c.in_ok-found.found.0 long stands) in
+          let all = cost_stands file c.args.store.now.slots now c.in_ok-found.found.0 (1 + windows c.in_ok-found.found.1) belongs early long is_at in
+          let twice = cost_stands file c.args.store.now.slots now c.in_ok-found.found.0 2 belongs early long is_at in
+          let same = ap (cost_with file c.args.store.now.slots c.args.section c.args.layout.now) (windows_same file c.args.store.now.slots now c.in_ok-found.found.0 long is_at) in
           order_wants c.apply_target.result c.args.src.now file c.args.store.now.slots c.args.section c.args.layout.now (64 + 64 * e_shnum file)
           (λ never.
-          let once = c.apply_target.ensures.once file held c.args.store.now.slots stands never in
+          let once = c.apply_target.ensures.once file held c.args.store.now.slots is_at never in
           all_wants_after c.apply_target.result (passes_cost now 2) _ (ReadsUpTo-none c.args.src.now 0) (omega (arith, twice)) once.1)
           (all_wants_after c.apply_target.result (passes_cost now (1 + windows c.in_ok-found.found.1)) _ (ReadsUpTo-none c.args.src.now 0) (omega (arith, all, same))
           (all_wants c.apply_target.result c.args.src.now c.apply_target.new.src c.apply_target.new.out _ c.apply_target.ensures.says));
@@ -81,7 +81,7 @@ returns g c =
       text = λ file held passed.
           let belongs = c.requires.opened.belongs file held in
           let found = c.in_ok-found.ensures.held file belongs in
-          let stands : IsApplyTarget file c.args.store.now.slots now c.in_ok-found.found.0 =
+          let is_at : IsApplyTarget file c.args.store.now.slots now c.in_ok-found.found.0 =
           record { passed = before_request file c.args.store.now.slots c.args.section c.args.layout.now (length (entries_for file c.args.section)) passed belongs.passes ∙ found.0; bytes = found.1 } in
-          c.apply_target.ensures.text file held c.args.store.now.slots stands;
+          c.apply_target.ensures.text file held c.args.store.now.slots is_at;
     }

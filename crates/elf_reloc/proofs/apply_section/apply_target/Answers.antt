@@ -23,15 +23,15 @@ returns-in_err-checked g c =
       says =
           rw (p.1, p.2) (fault_applies c.args.src.now c.check.new.src c.args.out.now _ _ c.in_err-checked.field-0.0 (checked_most (walk_all c.args.target.now) c.args.target.now.size) c.in_err-checked.ensures.did.costs.says);
       reads = spends_reads _ c.check.ensures.did.costs.reads (checked_below (walk_all c.args.target.now) c.args.target.now.size _ _ c.check.ensures.did.costs.reads.at_most);
-      once = λ file held headers stands never. (
+      once = λ file held headers is_at never. (
         omega (arith, c.check.ensures.did.costs.reads.at_most),
         rw (p.1, p.2) (fault_wants c.args.src.now c.check.new.src _ _ c.args.out.now c.in_err-checked.field-0.0 (omega arith) c.in_err-checked.ensures.did.costs.says),
       );
       grows = search rules;
       wrote = search rules;
-      text = λ file held headers stands.
+      text = λ file held headers is_at.
           let belongs = c.requires.opened.belongs file held in
-          check_failed file headers c.args.target.now c.args.at belongs (section_long c.args.src.now c.args.target.now c.args.at c.requires file held) stands _ c.args.out.now c.in_err-checked.field-0.0 _ (p.1 ∙ ap Err p.2) (c.in_err-checked.ensures.did.known file held);
+          check_failed file headers c.args.target.now c.args.at belongs (section_long c.args.src.now c.args.target.now c.args.at c.requires file held) is_at _ c.args.out.now c.in_err-checked.field-0.0 _ (p.1 ∙ ap Err p.2) (c.in_err-checked.ensures.did.known file held);
     }
 
 pub returns : goal.returns
@@ -40,15 +40,15 @@ returns g c = record {
   reads =
       spends_then _ c.check.ensures.did.costs.reads c.write_checked.ensures.reads
       (omega (arith, all_sum c.in_ok-checked.checked.rises (walk_all c.args.target.now) c.args.target.now.size _ _ c.check.ensures.did.costs.reads.at_most, c.write_checked.ensures.reads.at_most));
-  once = λ file held headers stands never.
-      let told = stores c.args.src.now c.args.target.now c.args.at c.requires file held headers _ stands (c.in_ok-checked.ensures.did.known file held) in
+  once = λ file held headers is_at never.
+      let told = stores c.args.src.now c.args.target.now c.args.at c.requires file held headers _ is_at (c.in_ok-checked.ensures.did.known file held) in
       let rises = sym told.never_falls ∙ never in
       let twice = twice_sum c.in_ok-checked.checked.rises (walk_all c.args.target.now) c.args.target.now.size _ _ rises c.check.ensures.did.costs.reads.at_most in
       (omega (arith, twice, c.write_checked.ensures.reads.at_most), tt);
   grows = search rules;
   wrote = search rules;
-  text = λ file held headers stands.
-      let told = stores c.args.src.now c.args.target.now c.args.at c.requires file held headers _ stands (c.in_ok-checked.ensures.did.known file held) in (
+  text = λ file held headers is_at.
+      let told = stores c.args.src.now c.args.target.now c.args.at c.requires file held headers _ is_at (c.in_ok-checked.ensures.did.known file held) in (
         patched told.patches (slice file c.args.at c.args.target.now.size),
         told.text,
         c.in_ok-write_checked.ensures.text file (c.check.ensures.did.costs.reads.keeps.same_file ∙ held) told.patches told.are told.inside told.in_order,
@@ -67,8 +67,8 @@ returns-in_err-write_checked g c =
       reads =
           spends_then _ c.check.ensures.did.costs.reads c.write_checked.ensures.reads
           (omega (arith, all_sum c.in_ok-checked.checked.rises (walk_all c.args.target.now) c.args.target.now.size _ _ c.check.ensures.did.costs.reads.at_most, c.write_checked.ensures.reads.at_most));
-      once = λ file held headers stands never.
-          let told = stores c.args.src.now c.args.target.now c.args.at c.requires file held headers _ stands (c.in_ok-checked.ensures.did.known file held) in
+      once = λ file held headers is_at never.
+          let told = stores c.args.src.now c.args.target.now c.args.at c.requires file held headers _ is_at (c.in_ok-checked.ensures.did.known file held) in
           let rises = sym told.never_falls ∙ never in
           let twice = twice_sum c.in_ok-checked.checked.rises (walk_all c.args.target.now) c.args.target.now.size _ _ rises c.check.ensures.did.costs.reads.at_most in (
             omega (arith, twice, c.write_checked.ensures.reads.at_most),
@@ -76,8 +76,8 @@ returns-in_err-write_checked g c =
           );
       grows = search rules;
       wrote = search rules;
-      text = λ file held headers stands.
-          let told = stores c.args.src.now c.args.target.now c.args.at c.requires file held headers _ stands (c.in_ok-checked.ensures.did.known file held) in
+      text = λ file held headers is_at.
+          let told = stores c.args.src.now c.args.target.now c.args.at c.requires file held headers _ is_at (c.in_ok-checked.ensures.did.known file held) in
           rw (p.1, p.2) (writes_failed (Unit {0}) _ _ c.in_err-write_checked.field-0.0 (patched told.patches (slice file c.args.at c.args.target.now.size)) _ _
           told.text (c.in_err-write_checked.ensures.text file (c.check.ensures.did.costs.reads.keeps.same_file ∙ held) told.patches told.are told.inside told.in_order));
     }

@@ -8,9 +8,9 @@ use Rattle.elf_reloc.proofs.apply_section.held.Goals as goal
 pub returns-clause-held : goal.returns-clause-held
 returns-clause-held c = λ bytes belongs.
     let at = section_at bytes c.args.section in
-    let stands = c.section.ensures.stands bytes belongs in
+    let is_at = c.section.ensures.is_at bytes belongs in
     let relocatable : not (e_type bytes == ET_REL) ≡ false = grind (arith, nat_tests) in
     let machine : not (e_machine bytes == EM_X86_64) ≡ false = grind (arith, nat_tests) in
     let index : (c.args.section == 0 || not (nat_lt c.args.section (e_shnum bytes))) ≡ false = grind (arith, nat_tests) in
-    let plain : is_compressed bytes at ≡ false = sym (c.is_compressed.ensures bytes at stands) ∙ c.if-is_compressed.false in
+    let plain : is_compressed bytes at ≡ false = sym (c.is_compressed.ensures bytes at is_at) ∙ c.if-is_compressed.false in
     held_by bytes c.args.section relocatable machine index plain c.held_range.result c.held_range.ensures.refusal (c.held_range.ensures.held bytes belongs)

@@ -7,7 +7,7 @@ use Rattle.elf_reloc.proofs.entries.entry_in.Goals as goal
 pub returns-then-not-applies_to-clause-has : goal.returns-then-not-applies_to-clause-has
 returns-then-not-applies_to-clause-has c = λ bytes belongs.
     let header = section_at bytes c.args.index in
-    not_applied bytes c.args.section c.args.rela header (sym (c.applies_to.ensures bytes header (c.section.ensures.stands bytes belongs)) ∙ c.if-not-applies_to.true)
+    not_applied bytes c.args.section c.args.rela header (sym (c.applies_to.ensures bytes header (c.section.ensures.is_at bytes belongs)) ∙ c.if-not-applies_to.true)
 
 pub returns-then-not-has_row-clause-has : goal.returns-then-not-has_row-clause-has
 returns-then-not-has_row-clause-has c = λ bytes belongs.
@@ -21,7 +21,7 @@ returns-else-not-has_row-clause-has c = λ bytes belongs.
     let header = section_at bytes c.args.index in
     let found = c.in-Ok.ensures.held bytes belongs in
     let has = sym c.has_row.ensures ∙ c.if-not-has_row.false in (
-      there bytes c.args.section c.args.rela header (sym (c.applies_to.ensures bytes header (c.section.ensures.stands bytes belongs)) ∙ c.if-not-applies_to.false) found.pass
+      there bytes c.args.section c.args.rela header (sym (c.applies_to.ensures bytes header (c.section.ensures.is_at bytes belongs)) ∙ c.if-not-applies_to.false) found.pass
           (sym (row_is bytes header c.args.rela c.in-Ok.found.0 found.placed found.counted c.in-Ok.ensures.entry) ∙ has),
       found.refers (row_some c.in-Ok.found.0 c.args.rela has),
     )

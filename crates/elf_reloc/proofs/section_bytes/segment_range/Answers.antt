@@ -14,7 +14,7 @@ returns-then-segment-segments-clause-held c = λ bytes views.
 pub returns-then-is_out_of_bounds-clause-held : goal.returns-then-is_out_of_bounds-clause-held
 returns-then-is_out_of_bounds-clause-held c = λ bytes views.
     let at = segment_at bytes c.args.segment in
-    let stands = c.segment-header.ensures.stands bytes views in
+    let is_at = c.segment-header.ensures.is_at bytes views in
     let index : not (nat_lt c.args.segment (e_phnum bytes)) ≡ false = grind (arith, nat_tests) in
     let outside : is_outside (length bytes) (p_offset bytes at) (p_filesz bytes at) ≡ true = grind (arith, nat_tests) in
     let here : at ≡ c.place.result = grind arith in
@@ -23,7 +23,7 @@ returns-then-is_out_of_bounds-clause-held c = λ bytes views.
 pub returns-clause-held : goal.returns-clause-held
 returns-clause-held c = λ bytes views.
     let at = segment_at bytes c.args.segment in
-    let stands = c.segment-header.ensures.stands bytes views in
+    let is_at = c.segment-header.ensures.is_at bytes views in
     let index : not (nat_lt c.args.segment (e_phnum bytes)) ≡ false = grind (arith, nat_tests) in
     let inside : is_outside (length bytes) (p_offset bytes at) (p_filesz bytes at) ≡ false = grind (arith, nat_tests) in
-    rw (stands.p_offset, stands.p_filesz) (segment_found bytes c.args.segment index inside)
+    rw (is_at.p_offset, is_at.p_filesz) (segment_found bytes c.args.segment index inside)

@@ -6,7 +6,7 @@ use Rattle.elf_table.proofs.names.match_pieces.Given as goal
 abbrev pub invariant-loop-done : goal.invariant-loop-done
 invariant-loop-done g l = record {
   in_range : l.done ≤ l.want;
-  stands : Between l.start l.want l.done l.window;
+  is_at : Between l.start l.want l.done l.window;
   reads : ReadsUpTo l.fn.src l.src l.done;
   alike : (file : List ℕ) → l.fn.src.seen.file ≡ Some file → (k : ℕ) → k < l.done → get_or file (l.start + k) 0 ≡ get_or l.wanted k 0;
 }

@@ -29,7 +29,7 @@ returns g c =
       did = archive_runs c.args.caps c.args.parts.0 c.new-src.result listed.new.src c.new-out.result listed.new.out listed.result c.archive_status.result
           c.archive_status.ensures.refused c.archive_status.ensures.status listed.ensures.grows listed.ensures.leaves listed.ensures.says listed.ensures.text listed.ensures.cost listed.ensures.asks;
       last = c.into_inner-2.result;
-      stands = sym (ap (writer_contents g.W.Write.contents) c.into_inner-2.ensures
+      is_at = sym (ap (writer_contents g.W.Write.contents) c.into_inner-2.ensures
           ∙ (c.into_inner-sink.ensures.below ∙ (sym (all_below c.into_inner.result.below c.into_inner.result.held empty) ∙ c.into_inner.ensures.taken)));
       ends = c.end_answer.ensures.ends;
       rest = c.end_answer.ensures.rest;

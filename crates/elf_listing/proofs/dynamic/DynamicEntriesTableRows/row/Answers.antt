@@ -16,14 +16,14 @@ pub returns-in_err-end-clause-lists : goal.returns-in_err-end-clause-lists
 returns-in_err-end-clause-lists g c =
     let p = err_from_is_err_and c.from_residual.result c.from_residual.ensures.1 in
     rw (p.1, p.2) (ListingCalls-unread _ _ _ _ _ _ (omega arith) c.in_err-end.ensures.fetches (λ file held at of_kind row.
-    let decoded = c.decode-entry.ensures.stands file c.args.row.now.at (c.whole.ensures ∙ row.bytes) in
+    let decoded = c.decode-entry.ensures.is_at file c.args.row.now.at (c.whole.ensures ∙ row.bytes) in
     let here : c.args.row.now.at ≡ dynamic_at at c.args.row.now.index = omega (arith, row.here) in
     rw (entry_is file (dynamic_prefix c.args.listing.now.style.format c.args.listing.now.style.gnu file c.args.row.now.at c.args.row.now.index) (style_of c.args.listing.now.style) c.args.row.now.at c.args.row.now.index (dynamic_at at c.args.row.now.index) (strings_reported c.args.self.now.strings file) refl here, c.in_err-end.ensures.fetches.1)
     (WroteUntilStop-told _ (dynamic_choice (style_of c.args.listing.now.style) c.args.row.now.at) _ c.args.row.now.at _ c.read_string.new.self.name _ (c.in_err-end.ensures.read file held of_kind decoded))))
 
 pub returns-clause-lists : goal.returns-clause-lists
 returns-clause-lists g c = ListingCalls-named _ _ _ _ _ _ _ _ (omega arith) c.in_ok-end.ensures.fetches c.named_line.ensures (λ file held at of_kind row.
-    let decoded = c.decode-entry.ensures.stands file c.args.row.now.at (c.whole.ensures ∙ row.bytes) in
+    let decoded = c.decode-entry.ensures.is_at file c.args.row.now.at (c.whole.ensures ∙ row.bytes) in
     let here : c.args.row.now.at ≡ dynamic_at at c.args.row.now.index = omega (arith, row.here) in
     let read = told_shown c.args.row.now.at _ _ (string_told (strings_reported c.args.self.now.strings file) c.args.listing.now.style.format file c.args.listing.now.style.cap.bytes c.args.row.now.at) (c.in_ok-end.ensures.read file held of_kind decoded) in
     let choice = dynamic_choice (style_of c.args.listing.now.style) c.args.row.now.at in
@@ -37,7 +37,7 @@ returns-clause-lists g c = ListingCalls-named _ _ _ _ _ _ _ _ (omega arith) c.in
 
 pub returns-then-not-is_place_shown-clause-lists : goal.returns-then-not-is_place_shown-clause-lists
 returns-then-not-is_place_shown-clause-lists g c = ListingCalls-hidden _ _ _ _ _ _ (omega arith) c.in_ok-end.ensures.fetches (λ file held at of_kind row.
-    let decoded = c.decode-entry.ensures.stands file c.args.row.now.at (c.whole.ensures ∙ row.bytes) in
+    let decoded = c.decode-entry.ensures.is_at file c.args.row.now.at (c.whole.ensures ∙ row.bytes) in
     let here : c.args.row.now.at ≡ dynamic_at at c.args.row.now.index = omega (arith, row.here) in
     let read = told_shown c.args.row.now.at _ _ (string_told (strings_reported c.args.self.now.strings file) c.args.listing.now.style.format file c.args.listing.now.style.cap.bytes c.args.row.now.at) (c.in_ok-end.ensures.read file held of_kind decoded) in
     let choice = dynamic_choice (style_of c.args.listing.now.style) c.args.row.now.at in

@@ -13,15 +13,15 @@ use Rattle.elf_listing.proofs.dynamic.SectionDynamicListedKind.header.Goals as g
 pub returns-then-header-ne-SHT_DYNAMIC : goal.returns-then-header-ne-SHT_DYNAMIC
 unfolding section_dynamic
 returns-then-header-ne-SHT_DYNAMIC g c = ListingCalls-nothing _ _ _ _ (λ file held.
-    let stands = c.section-header.ensures.stands file (c.args.listing.now.loaded.belongs file held) in
-    no_table section_dynamic file _ _ _ _ (ne_eqb _ _ (λ same. c.if-header-ne-SHT_DYNAMIC.true (stands.sh_type ∙ same))))
+    let is_at = c.section-header.ensures.is_at file (c.args.listing.now.loaded.belongs file held) in
+    no_table section_dynamic file _ _ _ _ (ne_eqb _ _ (λ same. c.if-header-ne-SHT_DYNAMIC.true (is_at.sh_type ∙ same))))
 
 pub returns-then-header-eq0 : goal.returns-then-header-eq0
 unfolding section_dynamic
 returns-then-header-eq0 g c = ListingCalls-nothing _ _ _ _ (λ file held.
-    let stands = c.section-header.ensures.stands file (c.args.listing.now.loaded.belongs file held) in
-    let kind = sym stands.sh_type ∙ c.if-header-ne-SHT_DYNAMIC.false in
-    empty_dynamic file _ _ _ (section_at file c.args.index) (eq-eqb _ _ kind) (sym stands.sh_size ∙ c.if-header-eq0.true))
+    let is_at = c.section-header.ensures.is_at file (c.args.listing.now.loaded.belongs file held) in
+    let kind = sym is_at.sh_type ∙ c.if-header-ne-SHT_DYNAMIC.false in
+    empty_dynamic file _ _ _ (section_at file c.args.index) (eq-eqb _ _ kind) (sym is_at.sh_size ∙ c.if-header-eq0.true))
 
 pub returns-in_err-table : goal.returns-in_err-table
 unfolding section_dynamic
@@ -29,7 +29,7 @@ returns-in_err-table g c =
     let p = err_from_is_err_and c.from_residual.result c.from_residual.ensures.1 in
     rw (p.1, p.2) (ListingCalls-refused _ _ _ _ (search rules) (λ file held.
     let belongs = c.args.listing.now.loaded.belongs file held in
-    let kind = sym (c.section-header.ensures.stands file belongs).sh_type ∙ c.if-header-ne-SHT_DYNAMIC.false in
+    let kind = sym (c.section-header.ensures.is_at file belongs).sh_type ∙ c.if-header-ne-SHT_DYNAMIC.false in
     table_fails section_dynamic file _ _ _ (eq-eqb _ _ kind) _ _ (dynamic_fails file _ _ (sym (c.in_err-table.ensures.held file belongs)))))
 
 pub returns-in_err-names : goal.returns-in_err-names
@@ -38,9 +38,9 @@ returns-in_err-names g c =
     let p = err_from_is_err_and c.from_residual-in_err-names.result c.from_residual-in_err-names.ensures.1 in
     rw (p.1, p.2) (ListingCalls-refused _ _ _ _ (search rules) (λ file held.
     let belongs = c.args.listing.now.loaded.belongs file held in
-    let stands = c.section-header.ensures.stands file belongs in
-    let kind = sym stands.sh_type ∙ c.if-header-ne-SHT_DYNAMIC.false in
-    let some : (sh_size file (section_at file c.args.index) == 0) ≡ false = ne_eqb _ 0 (λ e. c.if-header-eq0.false (stands.sh_size ∙ e)) in
+    let is_at = c.section-header.ensures.is_at file belongs in
+    let kind = sym is_at.sh_type ∙ c.if-header-ne-SHT_DYNAMIC.false in
+    let some : (sh_size file (section_at file c.args.index) == 0) ≡ false = ne_eqb _ 0 (λ e. c.if-header-eq0.false (is_at.sh_size ∙ e)) in
     table_fails section_dynamic file _ _ _ (eq-eqb _ _ kind) _ _
     (strings_fail file _ some _ (sym (c.in_ok-table.ensures.held file belongs)) _ (sym (c.in_err-names.ensures.held file belongs)))))
 
@@ -53,10 +53,10 @@ returns g c =
     let kind = sym c.section-header.ensures.fields.sh_type ∙ c.if-header-ne-SHT_DYNAMIC.false in
     ListingCalls-within _ _ _ _ _ _ _ (section_within section_dynamic f.store.now c.args.index f.loaded.size _ cap 16 _ _ (eq-eqb _ _ kind) refl refl c.in_ok-table.ensures.value) c.list_rows.ensures (λ file held.
     let belongs = c.args.listing.now.loaded.belongs file held in
-    let stands = c.section-header.ensures.stands file belongs in
+    let is_at = c.section-header.ensures.is_at file belongs in
     let at = section_at file c.args.index in
-    let kind = sym stands.sh_type ∙ c.if-header-ne-SHT_DYNAMIC.false in
-    let some : (sh_size file at == 0) ≡ false = ne_eqb _ 0 (λ e. c.if-header-eq0.false (stands.sh_size ∙ e)) in
+    let kind = sym is_at.sh_type ∙ c.if-header-ne-SHT_DYNAMIC.false in
+    let some : (sh_size file at == 0) ≡ false = ne_eqb _ 0 (λ e. c.if-header-eq0.false (is_at.sh_size ∙ e)) in
     let found = dynamic_passes file at some _ (sym (c.in_ok-table.ensures.held file belongs)) _ (sym (c.in_ok-names.ensures.held file belongs)) in
     WroteSome-as _ _ _ (table_passes section_dynamic file style c.args.index at (eq-eqb _ _ kind) found.0 ∙ found.1 style)
     (c.list_rows.ensures.shows file held (λ some. tt)))

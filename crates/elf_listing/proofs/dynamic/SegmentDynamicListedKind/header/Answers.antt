@@ -21,8 +21,8 @@ pub returns-then-segment-ne-PT_DYNAMIC : goal.returns-then-segment-ne-PT_DYNAMIC
 unfolding segment_dynamic
 returns-then-segment-ne-PT_DYNAMIC g c = ListingCalls-nothing _ _ _ _ (λ file held.
     let viewed = views file _ _ _ (c.args.listing.now.loaded.belongs file held) c.args.listing.now.viewed held (omega (arith, c.requires.below)) in
-    let stands = c.segment.ensures.stands file (rw (c.view-view.ensures.loaded, c.view-view.ensures.store) viewed) in
-    no_table segment_dynamic file _ _ _ _ (ne_eqb _ _ (λ same. c.if-segment-ne-PT_DYNAMIC.true (stands.p_type ∙ same))))
+    let is_at = c.segment.ensures.is_at file (rw (c.view-view.ensures.loaded, c.view-view.ensures.store) viewed) in
+    no_table segment_dynamic file _ _ _ _ (ne_eqb _ _ (λ same. c.if-segment-ne-PT_DYNAMIC.true (is_at.p_type ∙ same))))
 
 pub returns-in_err-table : goal.returns-in_err-table
 unfolding segment_dynamic
@@ -31,8 +31,8 @@ returns-in_err-table g c =
     rw (p.1, p.2) (ListingCalls-refused _ _ _ _ (search rules) (λ file held.
     let viewed = views file _ _ _ (c.args.listing.now.loaded.belongs file held) c.args.listing.now.viewed held (omega (arith, c.requires.below)) in
     let view : HoldsProgramHeaders file c.view-view.result.loaded c.view-view.result.store.now = rw (c.view-view.ensures.loaded, c.view-view.ensures.store) viewed in
-    let stands = c.segment.ensures.stands file view in
-    let kind = sym stands.p_type ∙ c.if-segment-ne-PT_DYNAMIC.false in
+    let is_at = c.segment.ensures.is_at file view in
+    let kind = sym is_at.p_type ∙ c.if-segment-ne-PT_DYNAMIC.false in
     table_fails segment_dynamic file _ _ _ (eq-eqb _ _ kind) _ _ (whole_fails file _ _ (sym (c.in_err-table.ensures.held file view)))))
 
 pub invariant_of-listing : goal.invariant_of-listing
@@ -82,7 +82,7 @@ returns g c = record {
   shows = λ file held.
       let viewed = views file _ _ _ (c.args.listing.now.loaded.belongs file held) c.args.listing.now.viewed held (omega (arith, c.requires.below)) in
       let view : HoldsProgramHeaders file c.view-view.result.loaded c.view-view.result.store.now = rw (c.view-view.ensures.loaded, c.view-view.ensures.store) viewed in
-      let kind = sym (c.segment.ensures.stands file view).p_type ∙ c.if-segment-ne-PT_DYNAMIC.false in
+      let kind = sym (c.segment.ensures.is_at file view).p_type ∙ c.if-segment-ne-PT_DYNAMIC.false in
       let found = segment_passes file (style_of c.args.listing.now.style) _ _ _ (sym (c.in_ok-table.ensures.held file view)) (c.in_ok-told.ensures.did.known file held) in
       WroteSome-as _ _ _ (table_passes segment_dynamic file (style_of c.args.listing.now.style) c.args.index _ (eq-eqb _ _ kind) found.0 ∙ found.1)
       (c.list_rows.ensures.shows file (c.dynamic_strings.ensures.did.costs.reads.keeps.same_file ∙ held) (λ some. view));

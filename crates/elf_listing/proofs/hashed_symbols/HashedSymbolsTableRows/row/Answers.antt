@@ -17,7 +17,7 @@ returns-in_err-end-clause-lists g c =
     rw (p.1, p.2) (ListingCalls-unread _ _ _ _ _ _ (omega arith) c.in_err-end.ensures.fetches (λ file held at of_kind row.
     let rows = c.args.self.now in
     let style = style_of c.args.listing.now.style in
-    let decoded = c.decode-symbol.ensures.stands file c.args.row.now.at (c.whole.ensures ∙ row.bytes) in
+    let decoded = c.decode-symbol.ensures.is_at file c.args.row.now.at (c.whole.ensures ∙ row.bytes) in
     rw (hashed_is file style rows.segment (strings_in file rows.names) at c.args.row.now.at c.args.row.now.index _ _ row.here refl (c.from-off.ensures ∙ decoded.st_name), c.in_err-end.ensures.fetches.1)
     (WroteUntilStop-chosen _ (class_choice file style true c.args.row.now.at) _ _ _ [] _ (c.in_err-end.ensures.read file held))))
 
@@ -27,7 +27,7 @@ returns-then-not-is_symbol_row_shown-clause-lists g c =
     ListingCalls-hidden _ _ _ _ _ _ (omega arith) first (λ file held at of_kind row.
     let rows = c.args.self.now in
     let style = style_of c.args.listing.now.style in
-    let decoded = c.decode-symbol.ensures.stands file c.args.row.now.at (c.whole.ensures ∙ row.bytes) in
+    let decoded = c.decode-symbol.ensures.is_at file c.args.row.now.at (c.whole.ensures ∙ row.bytes) in
     let defined = ap (λ (n : ℕ). not (n == 0)) decoded.st_shndx in
     let hidden = class-chosen-as c.args.listing.now.style _ file c.args.row.now.at _ true _ _ _ _ _ first.0.same_style defined (c.place_of_symbol.ensures file decoded) c.is_symbol_row_shown.ensures c.if-not-is_symbol_row_shown.true in
     rw first.1
@@ -42,7 +42,7 @@ returns-clause-lists g c =
     ListingCalls-named _ _ _ _ _ _ _ _ (omega arith) first c.named_line.ensures (λ file held at of_kind row.
     let rows = c.args.self.now in
     let style = style_of c.args.listing.now.style in
-    let decoded = c.decode-symbol.ensures.stands file c.args.row.now.at (c.whole.ensures ∙ row.bytes) in
+    let decoded = c.decode-symbol.ensures.is_at file c.args.row.now.at (c.whole.ensures ∙ row.bytes) in
     let defined = ap (λ (n : ℕ). not (n == 0)) decoded.st_shndx in
     let front = rw (c.requires.format, c.naming-naming.ensures.gnu, c.naming-naming.ensures.machine file held) at (c.symbol_prefix.ensures.front file c.args.row.now.at decoded) in
     let read = c.in_ok-end.ensures.read file held in

@@ -22,12 +22,12 @@ returns-in_err-put g c = record {
   shows = λ file held.
       let p = err_from_is_err_and c.from_residual.result c.from_residual.ensures.1 in
       let viewed = views file _ _ _ (c.args.self.now.loaded.belongs file held) c.args.self.now.viewed held (omega (arith, c.requires.below)) in
-      let stands = c.segment-header.ensures.stands file (rw (c.view.ensures.loaded, c.view.ensures.store) viewed) in
+      let is_at = c.segment-header.ensures.is_at file (rw (c.view.ensures.loaded, c.view.ensures.store) viewed) in
       let told = rw c.view-2.ensures.loaded at c.place-place.ensures.value in
       let at : c.place-place.result ≡ segment_at file c.args.segment = omega (arith, told, (c.args.self.now.loaded.belongs file held).header.e_phoff) in
-      let placed = c.place_of_segment.ensures file (rw at stands) in
+      let placed = c.place_of_segment.ensures file (rw at is_at) in
       let shown = placed-as c.args.self.now.style c.args.self.now.style _ (place_of_segment file (segment_at file c.args.segment)) _ true refl (placed ∙ ap (place_of_segment file) at) c.shows.ensures c.if-not-shows.false in
-      let line = c.deref.ensures.0 ∙ (rw c.requires.format at (c.segment_row.ensures file (segment_at file c.args.segment) stands)) in
+      let line = c.deref.ensures.0 ∙ (rw c.requires.format at (c.segment_row.ensures file (segment_at file c.args.segment) is_at)) in
       rw (p.1, p.2, segment_line_is file _ (style_of c.args.self.now.style) c.args.segment line ∙ line-shown (style_of c.args.self.now.style) (place_of_segment file (segment_at file c.args.segment)) _ shown) (WroteUntilStop-line _ c.in_err-put.ensures.puts.0);
 }
 
@@ -38,22 +38,22 @@ returns g c = record {
   spent = (SpendsAtMost-none _ _ _ _ (omega arith), tt);
   shows = λ file held.
       let viewed = views file _ _ _ (c.args.self.now.loaded.belongs file held) c.args.self.now.viewed held (omega (arith, c.requires.below)) in
-      let stands = c.segment-header.ensures.stands file (rw (c.view.ensures.loaded, c.view.ensures.store) viewed) in
+      let is_at = c.segment-header.ensures.is_at file (rw (c.view.ensures.loaded, c.view.ensures.store) viewed) in
       let told = rw c.view-2.ensures.loaded at c.place-place.ensures.value in
       let at : c.place-place.result ≡ segment_at file c.args.segment = omega (arith, told, (c.args.self.now.loaded.belongs file held).header.e_phoff) in
-      let placed = c.place_of_segment.ensures file (rw at stands) in
+      let placed = c.place_of_segment.ensures file (rw at is_at) in
       let shown = placed-as c.args.self.now.style c.args.self.now.style _ (place_of_segment file (segment_at file c.args.segment)) _ true refl (placed ∙ ap (place_of_segment file) at) c.shows.ensures c.if-not-shows.false in
-      let line = c.deref.ensures.0 ∙ (rw c.requires.format at (c.segment_row.ensures file (segment_at file c.args.segment) stands)) in
+      let line = c.deref.ensures.0 ∙ (rw c.requires.format at (c.segment_row.ensures file (segment_at file c.args.segment) is_at)) in
       rw (segment_line_is file _ (style_of c.args.self.now.style) c.args.segment line ∙ line-shown (style_of c.args.self.now.style) (place_of_segment file (segment_at file c.args.segment)) _ shown) (Whole-line _ c.in_ok-put.ensures.puts.0);
 }
 
 pub returns-then-not-shows : goal.returns-then-not-shows
 returns-then-not-shows g c = ListingCalls-nothing _ _ _ _ (λ file held.
     let viewed = views file _ _ _ (c.args.self.now.loaded.belongs file held) c.args.self.now.viewed held (omega (arith, c.requires.below)) in
-    let stands = c.segment-header.ensures.stands file (rw (c.view.ensures.loaded, c.view.ensures.store) viewed) in
+    let is_at = c.segment-header.ensures.is_at file (rw (c.view.ensures.loaded, c.view.ensures.store) viewed) in
     let told = rw c.view-2.ensures.loaded at c.place-place.ensures.value in
     let at : c.place-place.result ≡ segment_at file c.args.segment = omega (arith, told, (c.args.self.now.loaded.belongs file held).header.e_phoff) in
-    let placed = c.place_of_segment.ensures file (rw at stands) in
+    let placed = c.place_of_segment.ensures file (rw at is_at) in
     let style = style_of c.args.self.now.style in
     let hidden = placed-as c.args.self.now.style c.args.self.now.style _ (place_of_segment file (segment_at file c.args.segment)) _ false refl (placed ∙ ap (place_of_segment file) at) c.shows.ensures c.if-not-shows.true in
     WroteSome-as {X = Unit {0}} _ _ (Ok tt)

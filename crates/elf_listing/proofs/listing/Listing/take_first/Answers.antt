@@ -47,7 +47,7 @@ returns-then-header-eq0-clause-records g c = record {
       let first : first_of_type file (kind_type c.args.kind) ≡ Some c.in-Some.section =
       ap (first_typed (file_sections file)) (sym c.section_type.ensures) ∙ sym (c.first.ensures.held file belongs) ∙ c.in-Some.is in
       taken-none file c.args.kind records _ _ _
-      (empty-section file c.args.kind c.in-Some.section first (sym (c.section-header.ensures.stands file belongs).sh_size ∙ c.if-header-eq0.true)) names;
+      (empty-section file c.args.kind c.in-Some.section first (sym (c.section-header.ensures.is_at file belongs).sh_size ∙ c.if-header-eq0.true)) names;
 }
 
 pub returns-in_err-table-clause-records : goal.returns-in_err-table-clause-records
@@ -59,13 +59,13 @@ returns-in_err-table-clause-records g c =
       within = tt;
       taken = λ file held records names.
           let belongs = c.args.self.now.loaded.belongs file held in
-          let stands = c.section-header.ensures.stands file belongs in
+          let is_at = c.section-header.ensures.is_at file belongs in
           let at = section_at file c.in-Some.section in
           let first : first_of_type file (kind_type c.args.kind) ≡ Some c.in-Some.section =
           ap (first_typed (file_sections file)) (sym c.section_type.ensures) ∙ sym (c.first.ensures.held file belongs) ∙ c.in-Some.is in
-          let some : (sh_size file at == 0) ≡ false = ne_eqb _ 0 (λ e. c.if-header-eq0.false (stands.sh_size ∙ e)) in
+          let some : (sh_size file at == 0) ≡ false = ne_eqb _ 0 (λ e. c.if-header-eq0.false (is_at.sh_size ∙ e)) in
           let place = section_placed file c.in-Some.section c.place-at.ensures.value belongs.header.e_shoff in
-          let value = range_of_file belongs.size stands.sh_offset stands.sh_size place c.in_err-table.ensures.value in
+          let value = range_of_file belongs.size is_at.sh_offset is_at.sh_size place c.in_err-table.ensures.value in
           taken-refused file c.args.kind c.in-Some.section records (λ f r. Unit {0}) _ first (outside file at some _ value);
     })
 
@@ -78,13 +78,13 @@ returns-in_err-strings-clause-records g c =
       within = tt;
       taken = λ file held records names.
           let belongs = c.args.self.now.loaded.belongs file held in
-          let stands = c.section-header.ensures.stands file belongs in
+          let is_at = c.section-header.ensures.is_at file belongs in
           let at = section_at file c.in-Some.section in
           let first : first_of_type file (kind_type c.args.kind) ≡ Some c.in-Some.section =
           ap (first_typed (file_sections file)) (sym c.section_type.ensures) ∙ sym (c.first.ensures.held file belongs) ∙ c.in-Some.is in
-          let some : (sh_size file at == 0) ≡ false = ne_eqb _ 0 (λ e. c.if-header-eq0.false (stands.sh_size ∙ e)) in
+          let some : (sh_size file at == 0) ≡ false = ne_eqb _ 0 (λ e. c.if-header-eq0.false (is_at.sh_size ∙ e)) in
           let place = section_placed file c.in-Some.section c.place-at.ensures.value belongs.header.e_shoff in
-          let value = range_of_file belongs.size stands.sh_offset stands.sh_size place c.in_ok-table.ensures.value in
+          let value = range_of_file belongs.size is_at.sh_offset is_at.sh_size place c.in_ok-table.ensures.value in
           taken-refused file c.args.kind c.in-Some.section records (λ f r. Unit {0}) _ first (unnamed file at some _ value _ (sym (c.in_err-strings.ensures.held file belongs)));
     })
 
@@ -139,13 +139,13 @@ returns-in_err-take_all-clause-records g c =
       within = tt;
       taken = λ file held records names.
           let belongs = c.args.self.now.loaded.belongs file held in
-          let stands = c.section-header.ensures.stands file belongs in
+          let is_at = c.section-header.ensures.is_at file belongs in
           let at = section_at file c.in-Some.section in
           let first : first_of_type file (kind_type c.args.kind) ≡ Some c.in-Some.section =
           ap (first_typed (file_sections file)) (sym c.section_type.ensures) ∙ sym (c.first.ensures.held file belongs) ∙ c.in-Some.is in
-          let some : (sh_size file at == 0) ≡ false = ne_eqb _ 0 (λ e. c.if-header-eq0.false (stands.sh_size ∙ e)) in
+          let some : (sh_size file at == 0) ≡ false = ne_eqb _ 0 (λ e. c.if-header-eq0.false (is_at.sh_size ∙ e)) in
           let place = section_placed file c.in-Some.section c.place-at.ensures.value belongs.header.e_shoff in
-          let value = range_of_file belongs.size stands.sh_offset stands.sh_size place c.in_ok-table.ensures.value in
+          let value = range_of_file belongs.size is_at.sh_offset is_at.sh_size place c.in_ok-table.ensures.value in
           let all = found file at some _ value _ (sym (c.in_ok-strings.ensures.held file belongs)) in
           let told = did.known file (first_reads.keeps.same_file ∙ held) (made.did.known file held) records names in
           taken-cut file c.args.kind c.in-Some.section records c.take_all.new.self c.take_all.new.places _ _ _ first all.0 all.2 (rw place at made.starts) told;
@@ -172,13 +172,13 @@ returns-clause-records g c =
       within = rw c.args.self.now.loaded.size at c.in_ok-strings.ensures.within;
       taken = λ file held records names.
           let belongs = c.args.self.now.loaded.belongs file held in
-          let stands = c.section-header.ensures.stands file belongs in
+          let is_at = c.section-header.ensures.is_at file belongs in
           let at = section_at file c.in-Some.section in
           let first : first_of_type file (kind_type c.args.kind) ≡ Some c.in-Some.section =
           ap (first_typed (file_sections file)) (sym c.section_type.ensures) ∙ sym (c.first.ensures.held file belongs) ∙ c.in-Some.is in
-          let some : (sh_size file at == 0) ≡ false = ne_eqb _ 0 (λ e. c.if-header-eq0.false (stands.sh_size ∙ e)) in
+          let some : (sh_size file at == 0) ≡ false = ne_eqb _ 0 (λ e. c.if-header-eq0.false (is_at.sh_size ∙ e)) in
           let place = section_placed file c.in-Some.section c.place-at.ensures.value belongs.header.e_shoff in
-          let value = range_of_file belongs.size stands.sh_offset stands.sh_size place c.in_ok-table.ensures.value in
+          let value = range_of_file belongs.size is_at.sh_offset is_at.sh_size place c.in_ok-table.ensures.value in
           let all = found file at some _ value _ (sym (c.in_ok-strings.ensures.held file belongs)) in
           let told = did.known file (first_reads.keeps.same_file ∙ held) (made.did.known file held) records names in
           taken-all file c.args.kind c.in-Some.section records _ _ _ _ _ first all.0 all.2 (rw place at made.starts) told all.1;

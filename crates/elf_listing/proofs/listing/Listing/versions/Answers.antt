@@ -20,26 +20,26 @@ use Rattle.elf_listing.proofs.listing.Listing.versions.Goals as goal
 
 pub returns-then-header-section_type : goal.returns-then-header-section_type
 returns-then-header-section_type g c = ListingCalls-nothing _ _ _ _ (λ file held.
-    let stands = c.section-header.ensures.stands file (c.args.self.now.loaded.belongs file held) in
-    no_table (records_kind c.args.kind) file _ _ _ _ (ne_eqb _ _ (λ same. c.if-header-section_type.true (stands.sh_type ∙ (same ∙ sym c.section_type.ensures)))))
+    let is_at = c.section-header.ensures.is_at file (c.args.self.now.loaded.belongs file held) in
+    no_table (records_kind c.args.kind) file _ _ _ _ (ne_eqb _ _ (λ same. c.if-header-section_type.true (is_at.sh_type ∙ (same ∙ sym c.section_type.ensures)))))
 
 pub returns-then-header-eq0 : goal.returns-then-header-eq0
 returns-then-header-eq0 g c = ListingCalls-nothing _ _ _ _ (λ file held.
-    let stands = c.section-header.ensures.stands file (c.args.self.now.loaded.belongs file held) in
-    let kind = sym stands.sh_type ∙ (c.if-header-section_type.false ∙ c.section_type.ensures) in
-    none_are c.args.kind file _ _ _ (section_at file c.args.section) (eq-eqb _ _ kind) (sym stands.sh_size ∙ c.if-header-eq0.true))
+    let is_at = c.section-header.ensures.is_at file (c.args.self.now.loaded.belongs file held) in
+    let kind = sym is_at.sh_type ∙ (c.if-header-section_type.false ∙ c.section_type.ensures) in
+    none_are c.args.kind file _ _ _ (section_at file c.args.section) (eq-eqb _ _ kind) (sym is_at.sh_size ∙ c.if-header-eq0.true))
 
 pub returns-in_err-table : goal.returns-in_err-table
 returns-in_err-table g c =
     let p = err_from_is_err_and c.from_residual.result c.from_residual.ensures.1 in
     rw (p.1, p.2) (ListingCalls-refused _ _ _ _ (search rules) (λ file held.
     let belongs = c.args.self.now.loaded.belongs file held in
-    let stands = c.section-header.ensures.stands file belongs in
+    let is_at = c.section-header.ensures.is_at file belongs in
     let at = section_at file c.args.section in
-    let kind = sym stands.sh_type ∙ (c.if-header-section_type.false ∙ c.section_type.ensures) in
-    let some : (sh_size file at == 0) ≡ false = ne_eqb _ 0 (λ e. c.if-header-eq0.false (stands.sh_size ∙ e)) in
+    let kind = sym is_at.sh_type ∙ (c.if-header-section_type.false ∙ c.section_type.ensures) in
+    let some : (sh_size file at == 0) ≡ false = ne_eqb _ 0 (λ e. c.if-header-eq0.false (is_at.sh_size ∙ e)) in
     let place = section_placed file c.args.section c.place-at.ensures.value belongs.header.e_shoff in
-    let value = range_of_file belongs.size stands.sh_offset stands.sh_size place c.in_err-table.ensures.value in
+    let value = range_of_file belongs.size is_at.sh_offset is_at.sh_size place c.in_err-table.ensures.value in
     table_fails (records_kind c.args.kind) file _ _ at (eq-eqb _ _ kind) _ _ (outside file at some _ value)))
 
 pub returns-in_err-names : goal.returns-in_err-names
@@ -47,12 +47,12 @@ returns-in_err-names g c =
     let p = err_from_is_err_and c.from_residual-in_err-names.result c.from_residual-in_err-names.ensures.1 in
     rw (p.1, p.2) (ListingCalls-refused _ _ _ _ c.in_err-names.ensures.refusal (λ file held.
     let belongs = c.args.self.now.loaded.belongs file held in
-    let stands = c.section-header.ensures.stands file belongs in
+    let is_at = c.section-header.ensures.is_at file belongs in
     let at = section_at file c.args.section in
-    let kind = sym stands.sh_type ∙ (c.if-header-section_type.false ∙ c.section_type.ensures) in
-    let some : (sh_size file at == 0) ≡ false = ne_eqb _ 0 (λ e. c.if-header-eq0.false (stands.sh_size ∙ e)) in
+    let kind = sym is_at.sh_type ∙ (c.if-header-section_type.false ∙ c.section_type.ensures) in
+    let some : (sh_size file at == 0) ≡ false = ne_eqb _ 0 (λ e. c.if-header-eq0.false (is_at.sh_size ∙ e)) in
     let place = section_placed file c.args.section c.place-at.ensures.value belongs.header.e_shoff in
-    let value = range_of_file belongs.size stands.sh_offset stands.sh_size place c.in_ok-table.ensures.value in
+    let value = range_of_file belongs.size is_at.sh_offset is_at.sh_size place c.in_ok-table.ensures.value in
     table_fails (records_kind c.args.kind) file _ _ at (eq-eqb _ _ kind) _ _
     (unnamed file at some _ value _ (sym (c.in_err-names.ensures.held file belongs)))))
 
@@ -105,12 +105,12 @@ returns g c =
       spent = SpentCredit-account _ _ _ _ _ _ _ _ _ _ pays made.did.costs.reads c.version_rows.ensures.spent;
       shows = λ file held.
           let belongs = c.args.self.now.loaded.belongs file held in
-          let stands = c.section-header.ensures.stands file belongs in
+          let is_at = c.section-header.ensures.is_at file belongs in
           let at = section_at file c.args.section in
-          let some : (sh_size file at == 0) ≡ false = ne_eqb _ 0 (λ e. c.if-header-eq0.false (stands.sh_size ∙ e)) in
+          let some : (sh_size file at == 0) ≡ false = ne_eqb _ 0 (λ e. c.if-header-eq0.false (is_at.sh_size ∙ e)) in
           let place = section_placed file c.args.section c.place-at.ensures.value belongs.header.e_shoff in
-          let stood = range_of_file belongs.size stands.sh_offset stands.sh_size place c.in_ok-table.ensures.value in
-          let typed = sym stands.sh_type ∙ (c.if-header-section_type.false ∙ c.section_type.ensures) in
+          let stood = range_of_file belongs.size is_at.sh_offset is_at.sh_size place c.in_ok-table.ensures.value in
+          let typed = sym is_at.sh_type ∙ (c.if-header-section_type.false ∙ c.section_type.ensures) in
           let all = found file at some _ stood _ (sym (c.in_ok-names.ensures.held file belongs)) in
           WroteSome-as _ _ _ (section_is k file style c.args.section at _ _ _ (eq-eqb _ _ typed) all.0 all.1 all.2 (rw place at made.starts))
           (c.version_rows.ensures.shows file (made.did.costs.reads.keeps.same_file ∙ held) (made.did.known file held));

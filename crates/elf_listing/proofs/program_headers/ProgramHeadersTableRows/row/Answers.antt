@@ -19,7 +19,7 @@ returns-in_err-put-clause-lists g c = record {
       rw (p.1, p.2) (SpendsAtMost-none _ _ _ _ (omega arith), c.in_err-put.ensures.puts.1);
   shows = λ file held at of_kind row.
       let p = err_from_is_err_and c.from_residual.result c.from_residual.ensures.1 in
-      let decoded = c.decode-header.ensures.stands file c.args.row.now.at (c.whole.ensures ∙ row.bytes) in
+      let decoded = c.decode-header.ensures.is_at file c.args.row.now.at (c.whole.ensures ∙ row.bytes) in
       let here : c.args.row.now.at ≡ e_phoff file + c.args.row.now.index * 56 = omega (arith, of_kind, row.here) in
       let shown = placed-as c.args.listing.now.style c.args.listing.now.style _ (place_of_segment file c.args.row.now.at) _ true refl (c.place_of_segment.ensures file decoded) c.is_place_shown.ensures c.if-not-is_place_shown.false in
       let line = c.deref.ensures.0 ∙ (rw c.requires.format at (c.segment_row.ensures file c.args.row.now.at decoded)) in
@@ -32,7 +32,7 @@ returns-clause-lists g c = record {
   keeps = record { same_src = refl; same_out = refl; same_file = refl; same_style = refl };
   spent = (SpendsAtMost-none _ _ _ _ (omega arith), tt);
   shows = λ file held at of_kind row.
-      let decoded = c.decode-header.ensures.stands file c.args.row.now.at (c.whole.ensures ∙ row.bytes) in
+      let decoded = c.decode-header.ensures.is_at file c.args.row.now.at (c.whole.ensures ∙ row.bytes) in
       let here : c.args.row.now.at ≡ e_phoff file + c.args.row.now.index * 56 = omega (arith, of_kind, row.here) in
       let shown = placed-as c.args.listing.now.style c.args.listing.now.style _ (place_of_segment file c.args.row.now.at) _ true refl (c.place_of_segment.ensures file decoded) c.is_place_shown.ensures c.if-not-is_place_shown.false in
       let line = c.deref.ensures.0 ∙ (rw c.requires.format at (c.segment_row.ensures file c.args.row.now.at decoded)) in
@@ -41,7 +41,7 @@ returns-clause-lists g c = record {
 
 pub returns-then-not-is_place_shown-clause-lists : goal.returns-then-not-is_place_shown-clause-lists
 returns-then-not-is_place_shown-clause-lists g c = ListingCalls-nothing _ _ _ _ (λ file held at of_kind row.
-    let decoded = c.decode-header.ensures.stands file c.args.row.now.at (c.whole.ensures ∙ row.bytes) in
+    let decoded = c.decode-header.ensures.is_at file c.args.row.now.at (c.whole.ensures ∙ row.bytes) in
     let here : c.args.row.now.at ≡ e_phoff file + c.args.row.now.index * 56 = omega (arith, of_kind, row.here) in
     let style = style_of c.args.listing.now.style in
     let hidden = placed-as c.args.listing.now.style c.args.listing.now.style _ (place_of_segment file c.args.row.now.at) _ false refl (c.place_of_segment.ensures file decoded) c.is_place_shown.ensures c.if-not-is_place_shown.true in

@@ -16,15 +16,15 @@ use Rattle.elf_listing.proofs.symbol_versions.SymbolVersionsListedKind.header.Go
 pub returns-then-header-ne-SHT_GNU_VERSYM : goal.returns-then-header-ne-SHT_GNU_VERSYM
 unfolding symbol_versions
 returns-then-header-ne-SHT_GNU_VERSYM g c = ListingCalls-nothing _ _ _ _ (λ file held.
-    let stands = c.section-header.ensures.stands file (c.args.listing.now.loaded.belongs file held) in
-    no_table symbol_versions file _ _ _ _ (ne_eqb _ _ (λ same. c.if-header-ne-SHT_GNU_VERSYM.true (stands.sh_type ∙ same))))
+    let is_at = c.section-header.ensures.is_at file (c.args.listing.now.loaded.belongs file held) in
+    no_table symbol_versions file _ _ _ _ (ne_eqb _ _ (λ same. c.if-header-ne-SHT_GNU_VERSYM.true (is_at.sh_type ∙ same))))
 
 pub returns-then-header-eq0 : goal.returns-then-header-eq0
 unfolding symbol_versions
 returns-then-header-eq0 g c = ListingCalls-nothing _ _ _ _ (λ file held.
-    let stands = c.section-header.ensures.stands file (c.args.listing.now.loaded.belongs file held) in
-    let kind = sym stands.sh_type ∙ c.if-header-ne-SHT_GNU_VERSYM.false in
-    empty-is file _ _ _ (section_at file c.args.index) (eq-eqb _ _ kind) (sym stands.sh_size ∙ c.if-header-eq0.true))
+    let is_at = c.section-header.ensures.is_at file (c.args.listing.now.loaded.belongs file held) in
+    let kind = sym is_at.sh_type ∙ c.if-header-ne-SHT_GNU_VERSYM.false in
+    empty-is file _ _ _ (section_at file c.args.index) (eq-eqb _ _ kind) (sym is_at.sh_size ∙ c.if-header-eq0.true))
 
 pub returns-in_err-found : goal.returns-in_err-found
 unfolding symbol_versions
@@ -32,8 +32,8 @@ returns-in_err-found g c =
     let p = err_from_is_err_and c.from_residual.result c.from_residual.ensures.1 in
     rw (p.1, p.2) (ListingCalls-refused _ _ _ _ c.in_err-found.ensures.refusal (λ file held.
     let belongs = c.args.listing.now.loaded.belongs file held in
-    let stands = c.section-header.ensures.stands file belongs in
-    let kind = sym stands.sh_type ∙ c.if-header-ne-SHT_GNU_VERSYM.false in
+    let is_at = c.section-header.ensures.is_at file belongs in
+    let kind = sym is_at.sh_type ∙ c.if-header-ne-SHT_GNU_VERSYM.false in
     table_fails symbol_versions file _ _ (section_at file c.args.index) (eq-eqb _ _ kind) _ _ (c.in_err-found.ensures.held file belongs)))
 
 pub returns-in_err-numbered : goal.returns-in_err-numbered
@@ -68,10 +68,10 @@ returns g c =
     let same = fetches.0.same_style in
     ListingCalls-after _ _ _ c.numbered.new.numbered _ _ _ _ _ _ (rw same (omega (arith, within))) fetches c.versioned.ensures (λ file held.
     let belongs = c.args.listing.now.loaded.belongs file held in
-    let stands = c.section-header.ensures.stands file belongs in
+    let is_at = c.section-header.ensures.is_at file belongs in
     let at = section_at file c.args.index in
-    let kind = eq-eqb _ _ (sym stands.sh_type ∙ c.if-header-ne-SHT_GNU_VERSYM.false) in
-    let sized : (sh_size file at == 0) ≡ false = ne_eqb _ 0 (λ e. c.if-header-eq0.false (stands.sh_size ∙ e)) in
+    let kind = eq-eqb _ _ (sym is_at.sh_type ∙ c.if-header-ne-SHT_GNU_VERSYM.false) in
+    let sized : (sh_size file at == 0) ≡ false = ne_eqb _ 0 (λ e. c.if-header-eq0.false (is_at.sh_size ∙ e)) in
     let no_fault = c.requires.ready file held in
     let found = c.in_ok-found.ensures.held file belongs in
     let numbered = (c.in_ok-numbered.ensures.numbers.read file held).1 in

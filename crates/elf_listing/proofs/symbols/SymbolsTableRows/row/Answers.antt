@@ -17,7 +17,7 @@ pub returns-in_err-end-clause-lists : goal.returns-in_err-end-clause-lists
 returns-in_err-end-clause-lists g c =
     let p = err_from_is_err_and c.from_residual.result c.from_residual.ensures.1 in
     rw (p.1, p.2) (ListingCalls-unread _ _ _ _ _ _ (omega arith) c.in_err-end.ensures.fetches (λ file held at of_kind row.
-    let decoded = c.decode-symbol.ensures.stands file c.args.row.now.at (c.whole.ensures ∙ row.bytes) in
+    let decoded = c.decode-symbol.ensures.is_at file c.args.row.now.at (c.whole.ensures ∙ row.bytes) in
     let here : c.args.row.now.at ≡ sh_offset file (section_at file c.args.self.now.section) + c.args.row.now.index * 24 = omega (arith, of_kind.1, row.here) in
     rw (symbol_row_is (g.V.NameVersions.lookup c.args.versions.now) file (style_of c.args.listing.now.style) _ _ _ _ _ _ refl of_kind.0 (c.from-off.ensures ∙ decoded.st_name) here, c.in_err-end.ensures.fetches.1) (WroteUntilStop-unnamed _ (symbol_choice file (style_of c.args.listing.now.style) (section_at file c.args.self.now.section) c.args.row.now.at) _ _ _ [] _ _ (c.in_err-end.ensures.read file held))))
 
@@ -29,7 +29,7 @@ returns-in_err-suffix-clause-lists g c =
     let cap = c.args.listing.now.style.cap.bytes in
     let both = ListingReads-then {X = NameEnd} _ _ _ c.in_ok-end.end (Err c.in_err-suffix.field-0.0) _ _ (name_bytes cap + suffix_cost (g.V.NameVersions.lookup c.args.versions.now) cap) (rw same (omega arith)) first c.in_err-suffix.ensures.reads.fetches in
     rw (p.1, p.2) (ListingCalls-unread _ _ _ _ _ _ (omega arith) both (λ file held at of_kind row.
-    let decoded = c.decode-symbol.ensures.stands file c.args.row.now.at (c.whole.ensures ∙ row.bytes) in
+    let decoded = c.decode-symbol.ensures.is_at file c.args.row.now.at (c.whole.ensures ∙ row.bytes) in
     let here : c.args.row.now.at ≡ sh_offset file (section_at file c.args.self.now.section) + c.args.row.now.index * 24 = omega (arith, of_kind.1, row.here) in
     let defined = ap (λ (n : ℕ). not (n == 0)) decoded.st_shndx in
     let read = c.in_ok-end.ensures.read file held in
@@ -44,7 +44,7 @@ returns-then-not-is_symbol_row_shown-clause-lists g c =
     let cap = c.args.listing.now.style.cap.bytes in
     let both = ListingReads-then {X = NameEnd} _ _ _ c.in_ok-end.end (Ok Whole) _ _ (name_bytes cap + suffix_cost (g.V.NameVersions.lookup c.args.versions.now) cap) (rw same (omega arith)) first c.in_ok-suffix.ensures.reads.fetches in
     ListingCalls-hidden _ _ _ _ _ _ (omega arith) both (λ file held at of_kind row.
-    let decoded = c.decode-symbol.ensures.stands file c.args.row.now.at (c.whole.ensures ∙ row.bytes) in
+    let decoded = c.decode-symbol.ensures.is_at file c.args.row.now.at (c.whole.ensures ∙ row.bytes) in
     let here : c.args.row.now.at ≡ sh_offset file (section_at file c.args.self.now.section) + c.args.row.now.index * 24 = omega (arith, of_kind.1, row.here) in
     let defined = ap (λ (n : ℕ). not (n == 0)) decoded.st_shndx in
     let read = c.in_ok-end.ensures.read file held in
@@ -63,7 +63,7 @@ returns-clause-lists g c =
     let cap = c.args.listing.now.style.cap.bytes in
     let both = ListingReads-then {X = NameEnd} _ _ _ c.in_ok-end.end (Ok Whole) _ _ (name_bytes cap + suffix_cost (g.V.NameVersions.lookup c.args.versions.now) cap) (rw same (omega arith)) first c.in_ok-suffix.ensures.reads.fetches in
     ListingCalls-named _ _ _ _ _ _ _ _ (omega arith) both (rw c.bytes-2.ensures.value at c.suffixed_line.ensures) (λ file held at of_kind row.
-    let decoded = c.decode-symbol.ensures.stands file c.args.row.now.at (c.whole.ensures ∙ row.bytes) in
+    let decoded = c.decode-symbol.ensures.is_at file c.args.row.now.at (c.whole.ensures ∙ row.bytes) in
     let here : c.args.row.now.at ≡ sh_offset file (section_at file c.args.self.now.section) + c.args.row.now.index * 24 = omega (arith, of_kind.1, row.here) in
     let defined = ap (λ (n : ℕ). not (n == 0)) decoded.st_shndx in
     let front = rw (c.requires.format, c.naming-naming.ensures.gnu, c.naming-naming.ensures.machine file held) at (c.symbol_prefix.ensures.front file c.args.row.now.at decoded) in

@@ -8,18 +8,18 @@ use Rattle.elf_needs.proofs.known_object.ObjectList.replace_name.Goals as goal
 
 pub returns-in_default-clause-replaced : goal.returns-in_default-clause-replaced
 returns-in_default-clause-replaced c = λ _ need is.
-    let folder = within_root c.args.root.now c.folder_of.result.now in
+    let directory = within_root c.args.root.now c.directory_of.result.now in
     let same : c.in_ok-need.need ≡ need = cc (c.in_ok-need.ensures, is) in
     let text : c.text-text.result.now ≡ needed_name_of c.args.self.now.links need =
     c.text-text.ensures ∙ ap (λ (n : NeededLibrary). needed_name_of c.args.self.now.links n) same in
-    let whole = without_tokens folder c.text-text.result.now (λ k low at. c.in_default.ensures k zero-le low (test_dollar _ at)) in
+    let whole = without_tokens directory c.text-text.result.now (λ k low at. c.in_default.ensures k zero-le low (test_dollar _ at)) in
     record {
-      folder = c.folder_of.result.now;
-      is_dir = c.folder_of.ensures;
+      directory = c.directory_of.result.now;
+      is_dir = c.directory_of.ensures;
       replaces = record {
         other = need;
         is_there = is;
         same_entry = refl;
-        its_name = subst (λ (l : List ℕ). l ≡ expanded folder 0 l) text whole;
+        its_name = subst (λ (l : List ℕ). l ≡ expanded directory 0 l) text whole;
       };
     }

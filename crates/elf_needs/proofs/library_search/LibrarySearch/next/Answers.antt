@@ -1,6 +1,6 @@
 use Rattle.std.proofs.Common.{◌++◌, List, ℕ, drop, refl, ap, ◌∙◌, arith}
 use Rattle.elf_needs.specs.Prelude.{dirs_in, searched_paths}
-use Rattle.elf_needs.proofs.FolderLaws.{next_text, no_text}
+use Rattle.elf_needs.proofs.DirectoryLaws.{next_text, no_text}
 use Rattle.elf_needs.proofs.library_search.LibrarySearch.next.Goals as goal
 
 pub returns-then-self-clause-none : goal.returns-then-self-clause-none

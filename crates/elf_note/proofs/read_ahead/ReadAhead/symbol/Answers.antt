@@ -14,7 +14,7 @@ returns-clause-read g c = λ file h a.
     let ends = b.brings.ends in
     let known = rw (← c.self.view_is) at a in
     let wide : min 24 (reach held - at) ≡ 24 = omega arith in
-    c.decode.ensures.stands file (row_at c.args.table.now c.args.index)
+    c.decode.ensures.is_at file (row_at c.args.table.now c.args.index)
     (c.whole.ensures
     ∙ part-of_file file _ held at 24 (b.agrees file h known.symbols) b.brings.begins ends (c.part.ensures.part ∙ ap (slice held.bytes (at - held.at)) wide)
     ∙ ap (λ (x : ℕ). slice file x 24) c.place-at.ensures)

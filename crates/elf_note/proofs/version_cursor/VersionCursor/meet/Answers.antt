@@ -14,7 +14,7 @@ pub returns-then-self-eq0-clause-did : goal.returns-then-self-eq0-clause-did
 returns-then-self-eq0-clause-did g c =
     let i = c.self.inside in
     let s = c.args.stand.now in
-    let stands = rw (← c.self.view_is) at c.requires.stands in
+    let is_at = rw (← c.self.view_is) at c.requires.is_at in
     let size : c.len-size.result ≡ i.held.table.count = search rules in
     let why : (i.left ≡ 0) ⊎ (i.held.table.count < s.place + record_size s.kind) =
     elim c.then-self-eq0.branch [
@@ -24,21 +24,21 @@ returns-then-self-eq0-clause-did g c =
     rw (c.refused.ensures, ← c.self.view_is)
     (CallDid-as _ (omega arith) (CallDid-stop (Refused (record { at = s.from; cause = VersionCut })) (λ budget. cc) (CallDid-none c.args.src.now))
     (λ file told costs agrees.
-    record { agrees = agrees; tells = λ other. rw stands (cut-here file i.held.table.at i.held.table.count (record_position_of s) i.left why); leads = tt }))
+    record { agrees = agrees; tells = λ other. rw is_at (cut-here file i.held.table.at i.held.table.count (record_position_of s) i.left why); leads = tt }))
 
 pub returns-in_err-step-clause-did : goal.returns-in_err-step-clause-did
 returns-in_err-step-clause-did g c =
     let i = c.self.inside in
     let s = c.args.stand.now in
-    let stands = rw (← c.self.view_is) at c.requires.stands in
-    let fits = rw stands at c.self.invariant.1 in
+    let is_at = rw (← c.self.view_is) at c.requires.is_at in
+    let fits = rw is_at at c.self.invariant.1 in
     let some : 0 < i.left = omega (arith, c.if-self-eq0.false) in
     let p = err_from_is_err_and c.from_residual.result c.from_residual.ensures.1 in
     rw (p.1, p.2, ← c.self.view_is)
     (CallDid-as _ (step-pays i.held i.left i.each _ some fits.pays) c.in_err-step.ensures.did
     (λ file told costs agrees. record {
       agrees = record { held = agrees.held; ahead = agrees.ahead };
-      tells = step-refused file i.held.table.at i.held.table.count i.standing s i.left (no_versions None) _ stands some (told agrees.held (rw stands at agrees.ahead));
+      tells = step-refused file i.held.table.at i.held.table.count i.standing s i.left (no_versions None) _ is_at some (told agrees.held (rw is_at at agrees.ahead));
       leads = tt;
     }))
 
@@ -46,19 +46,19 @@ pub returns-clause-did : goal.returns-clause-did
 returns-clause-did g c =
     let i = c.self.inside in
     let s = c.args.stand.now in
-    let stands = rw (← c.self.view_is) at c.requires.stands in
-    let fits = rw stands at c.self.invariant.1 in
+    let is_at = rw (← c.self.view_is) at c.requires.is_at in
+    let fits = rw is_at at c.self.invariant.1 in
     let some : 0 < i.left = omega (arith, c.if-self-eq0.false) in
     rw (← c.self.view_is)
     (CallDid-as _ (step-pays i.held i.left i.each _ some fits.pays) c.in_ok-step.ensures.did
     (λ file told costs agrees.
-    let step = told agrees.held (rw stands at agrees.ahead) in
+    let step = told agrees.held (rw is_at at agrees.ahead) in
     record {
       agrees = record { held = agrees.held; ahead = step.knows };
       tells = record {
         met = visited_at i.held.table.at (record_position_of s);
-        first = rw stands (step-met file i.held.table.at i.held.table.count (record_position_of s) i.left c.in_ok-step.step some step);
+        first = rw is_at (step-met file i.held.table.at i.held.table.count (record_position_of s) i.left c.in_ok-step.step some step);
         is = step.is;
       };
-      leads = rw stands step.leads;
+      leads = rw is_at step.leads;
     }))

@@ -11,7 +11,7 @@ pub returns-clause-spelled : goal.returns-clause-spelled
 returns-clause-spelled c = (is_encoding c).spelled
 
 pub returns-clause-fields : goal.returns-clause-fields
-returns-clause-fields c = rela_of_parts _ _ c.spelled.ensures.signed (is_encoding c).stands
+returns-clause-fields c = rela_of_parts _ _ c.spelled.ensures.signed (is_encoding c).is_at
 
 pub returns-clause-only : goal.returns-clause-only
 returns-clause-only c = λ bytes byte size is. (is_encoding c).only bytes byte size (rela_to_parts bytes _ byte size is)

@@ -1,5 +1,5 @@
 use Rattle.elf_record.proofs.RecordLaws.{sym_in_file}
 use Rattle.elf_record.proofs.sym.Sym.decode.Goals as goal
 
-pub returns-clause-stands : goal.returns-clause-stands
-returns-clause-stands c = λ file at is. sym_in_file file at _ _ is (assumption c)
+pub returns-clause-is_at : goal.returns-clause-is_at
+returns-clause-is_at c = λ file at is. sym_in_file file at _ _ is (assumption c)

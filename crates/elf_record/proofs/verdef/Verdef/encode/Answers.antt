@@ -10,7 +10,7 @@ pub returns-clause-spelled : goal.returns-clause-spelled
 returns-clause-spelled c = (is_encoding c).spelled
 
 pub returns-clause-fields : goal.returns-clause-fields
-returns-clause-fields c = let stands = (is_encoding c).stands in assumption stands
+returns-clause-fields c = let is_at = (is_encoding c).is_at in assumption is_at
 
 pub returns-clause-only : goal.returns-clause-only
 returns-clause-only c = λ bytes byte size is. (is_encoding c).only bytes byte size (assumption is)

@@ -45,9 +45,9 @@ returns-then-not-applies_to-clause-left c = cost-passed c.args.target.now c.args
 
 pub returns-then-not-applies_to-clause-walked : goal.returns-then-not-applies_to-clause-walked
 returns-then-not-applies_to-clause-walked c = λ file belongs reads.
-    let stands = c.section-header.ensures.stands file belongs in (
+    let is_at = c.section-header.ensures.is_at file belongs in (
       left-passed file c.args.target.now c.args.self.now _ c.requires.none c.requires.none refl (omega (arith, c.if-section-sections.false, c.sections.ensures))
-          (section_none (target_as file c.args.target.now) (section_at file c.args.self.now.next) (sym (c.applies_to.ensures file (section_at file c.args.self.now.next) stands) ∙ c.if-not-applies_to.true)),
+          (section_none (target_as file c.args.target.now) (section_at file c.args.self.now.next) (sym (c.applies_to.ensures file (section_at file c.args.self.now.next) is_at) ∙ c.if-not-applies_to.true)),
       record { agrees = reads.agrees; links = reads.links; placed = reads.placed },
     )
 
@@ -84,9 +84,9 @@ returns-clause-left c =
 
 pub returns-clause-walked : goal.returns-clause-walked
 returns-clause-walked c = λ file belongs reads.
-    let stands = c.section-header.ensures.stands file belongs in
+    let is_at = c.section-header.ensures.is_at file belongs in
     opened-rows file c.args.target.now c.args.self.now _ c.in_ok-found.found.0 c.new-self.ensures.table c.new-self.ensures.index c.new-self.ensures.left c.new-self.ensures.held refl refl
-    c.requires.none (omega (arith, c.if-section-sections.false, c.sections.ensures)) (sym (c.applies_to.ensures file (section_at file c.args.self.now.next) stands) ∙ c.if-not-applies_to.false)
+    c.requires.none (omega (arith, c.if-section-sections.false, c.sections.ensures)) (sym (c.applies_to.ensures file (section_at file c.args.self.now.next) is_at) ∙ c.if-not-applies_to.false)
     (c.in_ok-found.ensures.held file belongs) refl
 
 pub returns-in_err-found-clause-left : goal.returns-in_err-found-clause-left
@@ -95,7 +95,7 @@ returns-in_err-found-clause-left c = cost-passed c.args.target.now c.args.self.n
 pub returns-in_err-found-clause-walked : goal.returns-in_err-found-clause-walked
 returns-in_err-found-clause-walked c = λ file belongs reads.
     let p = err_from_is_err_and c.from_residual.result c.from_residual.ensures.1 in
-    let stands = c.section-header.ensures.stands file belongs in
+    let is_at = c.section-header.ensures.is_at file belongs in
     rw (p.1, p.2)
     (opened-fault file c.args.target.now c.args.self.now (record { cursor = c.args.self.now.cursor; symbols = c.args.self.now.symbols; current = c.args.self.now.current; next = c.args.self.now.next + 1; count = c.args.self.now.count }) _ c.requires.none (omega (arith, c.if-section-sections.false, c.sections.ensures))
-    (sym (c.applies_to.ensures file (section_at file c.args.self.now.next) stands) ∙ c.if-not-applies_to.false) (c.in_err-found.ensures.held file belongs))
+    (sym (c.applies_to.ensures file (section_at file c.args.self.now.next) is_at) ∙ c.if-not-applies_to.false) (c.in_err-found.ensures.held file belongs))

@@ -35,10 +35,10 @@ returns-in-Some g c =
           let place : c.row-row.result.at ≡ sh_offset file (section_at file c.args.self.now.current) + c.args.self.now.cursor.index * 24 = row.here ∙ ap (λ n. sh_offset file (section_at file c.args.self.now.current) + n * 24) row.index in
           let later = c.in_ok-advance.ensures.reads.keeps.same_file ∙ held in
           let links = reads.links (omega (arith, gives.one_less)) in
-          let stands = c.decode-entry.ensures.stands file c.row-row.result.at (c.whole.ensures ∙ row.bytes) in
-          let change = did.known file (section_at file c.args.self.now.current) later links stands in (
+          let is_at = c.decode-entry.ensures.is_at file c.row-row.result.at (c.whole.ensures ∙ row.bytes) in
+          let change = did.known file (section_at file c.args.self.now.current) later links is_at in (
             row-stores file c.args.target.now c.args.self.now _ c.row-row.result.at refl refl gives.next_index gives.one_less place c.in-Some.placed (rw c.in-Some.is at change),
-            reads-row file c.args.target.now _ c.args.self.now _ gives held refl reads (did.refers file (section_at file c.args.self.now.current) later links stands),
+            reads-row file c.args.target.now _ c.args.self.now _ gives held refl reads (did.refers file (section_at file c.args.self.now.current) later links is_at),
           );
     }
 
@@ -59,10 +59,10 @@ returns-in-None g c =
           let place : c.row-row.result.at ≡ sh_offset file (section_at file c.args.self.now.current) + c.args.self.now.cursor.index * 24 = row.here ∙ ap (λ n. sh_offset file (section_at file c.args.self.now.current) + n * 24) row.index in
           let later = c.in_ok-advance.ensures.reads.keeps.same_file ∙ held in
           let links = reads.links (omega (arith, gives.one_less)) in
-          let stands = c.decode-entry.ensures.stands file c.row-row.result.at (c.whole.ensures ∙ row.bytes) in
-          let change = did.known file (section_at file c.args.self.now.current) later links stands in (
+          let is_at = c.decode-entry.ensures.is_at file c.row-row.result.at (c.whole.ensures ∙ row.bytes) in
+          let change = did.known file (section_at file c.args.self.now.current) later links is_at in (
             row-nothing file c.args.target.now c.args.self.now _ c.row-row.result.at refl refl gives.next_index gives.one_less place (rw c.in-None.is at change),
-            reads-row file c.args.target.now _ c.args.self.now _ gives held refl reads (did.refers file (section_at file c.args.self.now.current) later links stands),
+            reads-row file c.args.target.now _ c.args.self.now _ gives held refl reads (did.refers file (section_at file c.args.self.now.current) later links is_at),
           );
     }
 
@@ -83,7 +83,7 @@ returns-in_err-placed g c =
       known = λ file held reads.
           let row = given_row _ _ _ c.row-row.result file c.args.self.now.cursor.table 24 (sh_offset file (section_at file c.args.self.now.current)) gives c.row-row.ensures held reads.agrees refl c.requires.goes.entry (reads.placed (omega (arith, gives.one_less))) in
           let place : c.row-row.result.at ≡ sh_offset file (section_at file c.args.self.now.current) + c.args.self.now.cursor.index * 24 = row.here ∙ ap (λ n. sh_offset file (section_at file c.args.self.now.current) + n * 24) row.index in
-          let change = did.known file (section_at file c.args.self.now.current) (c.in_ok-advance.ensures.reads.keeps.same_file ∙ held) (reads.links (omega (arith, gives.one_less))) (c.decode-entry.ensures.stands file c.row-row.result.at (c.whole.ensures ∙ row.bytes)) in
+          let change = did.known file (section_at file c.args.self.now.current) (c.in_ok-advance.ensures.reads.keeps.same_file ∙ held) (reads.links (omega (arith, gives.one_less))) (c.decode-entry.ensures.is_at file c.row-row.result.at (c.whole.ensures ∙ row.bytes)) in
           row-fails file c.args.target.now c.args.self.now now c.row-row.result.at refl refl gives.next_index gives.one_less place _ now change;
     })
 

@@ -12,7 +12,7 @@ returns-then-failed g c = elim c.then-failed.branch [
       (rw w.self-is at c.fail_output.ensures, inr (inr (rw (sym c.self.view_is) full)))
   | then-failed-via-else-failed+else-start+then-not-hold w ↦
       let says = w.if-not-hold.ensures in
-      let stands : c.self.inside.sink.failed ≡ false = search rules in
+      let is_at : c.self.inside.sink.failed ≡ false = search rules in
       let p = c.fail_output.ensures in
       let now = w.self-is in
       let view = c.self.view_is in
@@ -23,5 +23,5 @@ returns-then-failed g c = elim c.then-failed.branch [
         room = p.room ∙ (ap (λ (v : OutState). v.room) now ∙ (rw says.1 (ap (λ (v : OutState). v.room) view)));
         fails = p.fails;
       } in
-      (broken, inr (inl (rw (sym c.self.view_is) (says.2 stands))))
+      (broken, inr (inl (rw (sym c.self.view_is) (says.2 is_at))))
 ]

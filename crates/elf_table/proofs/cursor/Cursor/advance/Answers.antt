@@ -25,9 +25,9 @@ returns-in-Err-clause-steps g c =
       same_table = refl;
       failed = refl;
       at_next = λ nf.
-          let stands = Stands-skip i.table i.index i.shown i.window c.skip.new.self c.skip.ensures.at c.skip.ensures.held (inv.4 nf) in
+          let is_at = Stands-skip i.table i.index i.shown i.window c.skip.new.self c.skip.ensures.at c.skip.ensures.held (inv.4 nf) in
           let entry = c.entry-entry.ensures.value in
-          fault_at_row i.table i.index c.skip.new.self c.in-Err.fault stands (omega (arith, brings.0)) brings.1;
+          fault_at_row i.table i.index c.skip.new.self c.in-Err.fault is_at (omega (arith, brings.0)) brings.1;
     })
 
 pub returns-in-Err-clause-onward : goal.returns-in-Err-clause-onward
@@ -50,8 +50,8 @@ invariant_of-self-2 g c =
       moves.same_page ∙ page,
       moves.same_end ∙ ends,
       λ nf.
-          let stands = Stands-skip i.table i.index i.shown i.window c.skip.new.self c.skip.ensures.at c.skip.ensures.held (inv.4 nf) in
-          Stands-next i.table i.index c.entry-entry.result c.skip.new.self c.fill_buf.new.self entry.value (omega arith) (omega arith) below page ends stands brings,
+          let is_at = Stands-skip i.table i.index i.shown i.window c.skip.new.self c.skip.ensures.at c.skip.ensures.held (inv.4 nf) in
+          Stands-next i.table i.index c.entry-entry.result c.skip.new.self c.fill_buf.new.self entry.value (omega arith) (omega arith) below page ends is_at brings,
     )
 
 pub returns-clause-steps : goal.returns-clause-steps
@@ -60,10 +60,10 @@ returns-clause-steps g c =
     let inv = c.self.invariant in
     let nf : i.failed ≡ None = search rules in
     let below : i.index < i.table.count = let few = inv.0 in let other = c.if-self-len.false in let len = c.len.ensures in omega arith in
-    let stands = Stands-skip i.table i.index i.shown i.window c.skip.new.self c.skip.ensures.at c.skip.ensures.held (inv.4 nf) in
+    let is_at = Stands-skip i.table i.index i.shown i.window c.skip.new.self c.skip.ensures.at c.skip.ensures.held (inv.4 nf) in
     rw (← c.self.view_is)
     (Gives-next c.args.src.now.seen.file i.table i.index i.shown c.entry-entry.result i.failed i.window c.skip.new.self c.fill_buf.new.self c.entry-entry.ensures.value nf below
-    c.skip.ensures.at c.skip.ensures.held stands c.in_default-fill_buf.ensures.brings c.in_default-fill_buf.ensures.went.agrees)
+    c.skip.ensures.at c.skip.ensures.held is_at c.in_default-fill_buf.ensures.brings c.in_default-fill_buf.ensures.went.agrees)
 
 pub returns-clause-onward : goal.returns-clause-onward
 returns-clause-onward g c =

@@ -19,7 +19,7 @@ returns-then-section-sh_type-clause-held c = λ file belongs.
     let all = file_sections file in
     let type = c.args.sh_type in
     let count : c.sections-section-end.result ≡ e_shnum file = c.sections-section-end.ensures ∙ (belongs.count ∙ belongs.header.e_shnum) in
-    let here = eq-eqb (header_field all sh_type c.loop-section.section) type (sym (c.section.ensures.stands file belongs).sh_type ∙ c.if-section-sh_type.true) in
+    let here = eq-eqb (header_field all sh_type c.loop-section.section) type (sym (c.section.ensures.is_at file belongs).sh_type ∙ c.if-section-sh_type.true) in
     sym (first_that-some (λ (i : ℕ). header_field all sh_type i == type) 0 (e_shnum file) c.loop-section.section (omega arith) (omega (arith, c.loop-section-test.true, count))
     (λ j low high. c.loop-section.invariant.held file belongs j high) here)
 
@@ -35,7 +35,7 @@ loop-section-preserved c = record {
   held = λ file belongs i low.
       elim (cases_eq i c.loop-section.section) [
         | inl same ↦
-            let other = ne_eqb (header_field (file_sections file) sh_type c.loop-section.section) c.args.sh_type (λ e. c.if-section-sh_type.false ((c.section.ensures.stands file belongs).sh_type ∙ e)) in
+            let other = ne_eqb (header_field (file_sections file) sh_type c.loop-section.section) c.args.sh_type (λ e. c.if-section-sh_type.false ((c.section.ensures.is_at file belongs).sh_type ∙ e)) in
             ap (λ (k : ℕ). header_field (file_sections file) sh_type k == c.args.sh_type) same ∙ other
         | inr other ↦ c.loop-section.invariant.held file belongs i (omega arith)
       ];

@@ -24,9 +24,9 @@ pub returns-then-numbers-clause-held : goal.returns-then-numbers-clause-held
 unfolding told
 returns-then-numbers-clause-held c = λ file belongs.
     let all = file_sections file in
-    let stands = c.section.ensures.stands file belongs in
+    let is_at = c.section.ensures.is_at file belongs in
     let count : c.sections-section-end.result ≡ e_shnum file = c.sections-section-end.ensures ∙ (belongs.count ∙ belongs.header.e_shnum) in
-    let same = ap₂ (λ (type link : ℕ). told type link c.args.symbols) stands.sh_type stands.sh_link in
+    let same = ap₂ (λ (type link : ℕ). told type link c.args.symbols) is_at.sh_type is_at.sh_link in
     sym (first_that-some (λ (i : ℕ). header_field all sh_type i == SHT_GNU_VERSYM && header_field all sh_link i == c.args.symbols) 0 (e_shnum file) c.loop-section.section (omega arith)
     (omega (arith, c.loop-section-test.true, count))
     (λ j low high. c.loop-section.invariant.held file belongs j high) (sym same ∙ (sym c.numbers.ensures ∙ c.if-numbers.true)))
@@ -47,8 +47,8 @@ loop-section-preserved c = record {
       elim (cases_eq i c.loop-section.section) [
         | inl same ↦
             let all = file_sections file in
-            let stands = c.section.ensures.stands file belongs in
-            let is = ap₂ (λ (type link : ℕ). told type link c.args.symbols) stands.sh_type stands.sh_link in
+            let is_at = c.section.ensures.is_at file belongs in
+            let is = ap₂ (λ (type link : ℕ). told type link c.args.symbols) is_at.sh_type is_at.sh_link in
             ap (λ (k : ℕ). told (header_field all sh_type k) (header_field all sh_link k) c.args.symbols) same ∙ (sym is ∙ (sym c.numbers.ensures ∙ c.if-numbers.false))
         | inr other ↦ c.loop-section.invariant.held file belongs i (omega arith)
       ];

@@ -14,8 +14,8 @@ returns-in_err-table-clause-held g c = λ file belongs.
 
 pub returns-then-section_header-eq0-clause-held : goal.returns-then-section_header-eq0-clause-held
 returns-then-section_header-eq0-clause-held g c = λ file belongs.
-    let stands = c.section_header.ensures.stands file belongs.rows in
-    unversioned file (section_at file c.args.section) _ (sym stands.sh_size ∙ c.if-section_header-eq0.true) (sym (c.in_ok-table.ensures.held file belongs))
+    let is_at = c.section_header.ensures.is_at file belongs.rows in
+    unversioned file (section_at file c.args.section) _ (sym is_at.sh_size ∙ c.if-section_header-eq0.true) (sym (c.in_ok-table.ensures.held file belongs))
 
 pub returns-then-section_header-eq0-clause-counts : goal.returns-then-section_header-eq0-clause-counts
 returns-then-section_header-eq0-clause-counts g c =
@@ -32,8 +32,8 @@ returns-then-section_header-eq0-clause-counts g c =
 pub returns-then-not-links_to_symbols-clause-held : goal.returns-then-not-links_to_symbols-clause-held
 returns-then-not-links_to_symbols-clause-held g c = λ file belongs.
     let at = section_at file c.args.section in
-    let stands = c.section_header.ensures.stands file belongs.rows in
-    let some : (sh_size file at == 0) ≡ false = ne_eqb _ 0 (λ e. c.if-section_header-eq0.false (stands.sh_size ∙ e)) in
+    let is_at = c.section_header.ensures.is_at file belongs.rows in
+    let some : (sh_size file at == 0) ≡ false = ne_eqb _ 0 (λ e. c.if-section_header-eq0.false (is_at.sh_size ∙ e)) in
     let none : (sh_link file at == 0 || not (has_symbols file at)) ≡ true = not_false _ (sym (c.links_to_symbols.ensures.held file _ belongs) ∙ c.if-not-links_to_symbols.true) in
     let place : c.place.result ≡ at = omega (arith, c.place.ensures, belongs.header.e_shoff) in
     rw (c.refused.ensures, place) (unlinked file at some _ (sym (c.in_ok-table.ensures.held file belongs)) none)
@@ -44,10 +44,10 @@ returns-in_err-symbols g c =
     record {
       held = λ file belongs.
           let at = section_at file c.args.section in
-          let stands = c.section_header.ensures.stands file belongs.rows in
-          let some : (sh_size file at == 0) ≡ false = ne_eqb _ 0 (λ e. c.if-section_header-eq0.false (stands.sh_size ∙ e)) in
+          let is_at = c.section_header.ensures.is_at file belongs.rows in
+          let some : (sh_size file at == 0) ≡ false = ne_eqb _ 0 (λ e. c.if-section_header-eq0.false (is_at.sh_size ∙ e)) in
           let linked : (sh_link file at == 0 || not (has_symbols file at)) ≡ false = not_true _ (sym (c.links_to_symbols.ensures.held file _ belongs) ∙ c.if-not-links_to_symbols.false) in
-          let link = (c.section_header-link.ensures.stands file belongs.rows).sh_link in
+          let link = (c.section_header-link.ensures.is_at file belongs.rows).sh_link in
           rw (p.1, p.2) (symbols_refused file at some _ (sym (c.in_ok-table.ensures.held file belongs)) linked _ (sym (ap (λ k. symbols_at file (section_at file k)) link) ∙ sym (c.in_err-symbols.ensures.held file belongs)));
       table = rw p.1 tt;
       within = rw p.1 tt;
@@ -58,10 +58,10 @@ returns-in_err-symbols g c =
 pub returns-clause-held : goal.returns-clause-held
 returns-clause-held g c = λ file belongs.
     let at = section_at file c.args.section in
-    let stands = c.section_header.ensures.stands file belongs.rows in
-    let some : (sh_size file at == 0) ≡ false = ne_eqb _ 0 (λ e. c.if-section_header-eq0.false (stands.sh_size ∙ e)) in
+    let is_at = c.section_header.ensures.is_at file belongs.rows in
+    let some : (sh_size file at == 0) ≡ false = ne_eqb _ 0 (λ e. c.if-section_header-eq0.false (is_at.sh_size ∙ e)) in
     let linked : (sh_link file at == 0 || not (has_symbols file at)) ≡ false = not_true _ (sym (c.links_to_symbols.ensures.held file _ belongs) ∙ c.if-not-links_to_symbols.false) in
-    let link = (c.section_header-link.ensures.stands file belongs.rows).sh_link in
+    let link = (c.section_header-link.ensures.is_at file belongs.rows).sh_link in
     rw c.len.ensures (versioned file at some _ (sym (c.in_ok-table.ensures.held file belongs)) linked _ (sym (ap (λ k. symbols_at file (section_at file k)) link) ∙ sym (c.in_ok-symbols.ensures.held file belongs)))
 
 pub returns-clause-counts : goal.returns-clause-counts

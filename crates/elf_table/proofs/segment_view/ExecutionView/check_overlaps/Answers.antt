@@ -13,7 +13,7 @@ segments-init c = record {
 
 pub returns-then-begins_below-clause-held : goal.returns-then-begins_below-clause-held
 returns-then-begins_below-clause-held c = λ file views.
-    let here = c.segment-header.ensures.stands file views in
+    let here = c.segment-header.ensures.is_at file views in
     let low = sym (c.begins_below.ensures file (segment_at file c.segments.segment) here) ∙ c.if-begins_below.true in
     let place : segment_at file c.segments.segment ≡ c.place.result =
     sym (c.place.ensures.value ∙ ap (λ (n : ℕ). n + 56 * c.segments.segment) views.belongs.header.e_phoff) in
@@ -26,7 +26,7 @@ pub segments-preserved : goal.segments-preserved
 segments-preserved c = record {
   within = omega arith;
   same = λ file views.
-      let here = c.segment-header.ensures.stands file views in
+      let here = c.segment-header.ensures.is_at file views in
       let high = sym (c.begins_below.ensures file (segment_at file c.segments.segment) here) ∙ c.if-begins_below.false in
       let next = c.page_after-page.ensures file (segment_at file c.segments.segment) here in
       c.segments.invariant.same file views

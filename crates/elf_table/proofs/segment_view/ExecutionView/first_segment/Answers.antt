@@ -9,7 +9,7 @@ pub returns-then-segment-kind-clause-first : goal.returns-then-segment-kind-clau
 returns-then-segment-kind-clause-first c = λ bytes views.
     let kind = c.args.kind in
     let count : c.segments-index-end.result ≡ e_phnum bytes = c.segments-index-end.ensures ∙ (views.count ∙ views.belongs.header.e_phnum) in
-    let here = eq-eqb (p_type bytes (segment_at bytes c.loop-index.index)) kind (sym (c.segment.ensures.stands bytes views).p_type ∙ c.if-segment-kind.true) in
+    let here = eq-eqb (p_type bytes (segment_at bytes c.loop-index.index)) kind (sym (c.segment.ensures.is_at bytes views).p_type ∙ c.if-segment-kind.true) in
     sym (first_that-some (λ (i : ℕ). p_type bytes (segment_at bytes i) == kind) 0 (e_phnum bytes) c.loop-index.index (omega arith) (omega (arith, c.loop-index-test.true, count))
     (λ j low high. c.loop-index.invariant bytes views j high) here)
 
@@ -18,7 +18,7 @@ loop-index-preserved c = λ bytes views i low.
     let kind = c.args.kind in
     elim (cases_eq i c.loop-index.index) [
       | inl same ↦
-          let other = ne_eqb (p_type bytes (segment_at bytes c.loop-index.index)) kind (λ e. c.if-segment-kind.false ((c.segment.ensures.stands bytes views).p_type ∙ e)) in
+          let other = ne_eqb (p_type bytes (segment_at bytes c.loop-index.index)) kind (λ e. c.if-segment-kind.false ((c.segment.ensures.is_at bytes views).p_type ∙ e)) in
           ap (λ (k : ℕ). p_type bytes (segment_at bytes k) == kind) same ∙ other
       | inr other ↦ c.loop-index.invariant bytes views i (omega arith)
     ]

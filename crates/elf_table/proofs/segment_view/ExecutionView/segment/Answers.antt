@@ -4,5 +4,5 @@ use Rattle.elf_table.proofs.segment_view.ExecutionView.segment.Goals as goal
 pub returns-clause-fields : goal.returns-clause-fields
 returns-clause-fields c = c.segment.ensures.fields
 
-pub returns-clause-stands : goal.returns-clause-stands
-returns-clause-stands c = λ file views. c.segment.ensures.stands file views.rows
+pub returns-clause-is_at : goal.returns-clause-is_at
+returns-clause-is_at c = λ file views. c.segment.ensures.is_at file views.rows

@@ -7,9 +7,9 @@ use Rattle.elf_needs.specs.declared.search_path_list.SearchPathList.{SearchPathL
 use Rattle.elf_needs.specs.Searching.{NeedingObject}
 use Rattle.elf_needs.specs.declared.needers.NeedingObject.{NeedingObject as BorrowedNeeder}
 
-pub dirs_more : (lists : List SearchPathList) (folders : SearchPathList) → dirs_in (lists ++ folders ∷ []) ≡ dirs_in lists ++ dirs_of folders ∷ []
-dirs_more [] folders = refl
-dirs_more (first ∷ lists) folders = ap (λ l. dirs_of first ∷ l) (dirs_more lists folders)
+pub dirs_more : (lists : List SearchPathList) (directories : SearchPathList) → dirs_in (lists ++ directories ∷ []) ≡ dirs_in lists ++ dirs_of directories ∷ []
+dirs_more [] directories = refl
+dirs_more (first ∷ lists) directories = ap (λ l. dirs_of first ∷ l) (dirs_more lists directories)
 
 pub append_none : {A : Type 0} (xs : List A) → xs ++ [] ≡ xs
 append_none [] = refl
@@ -71,12 +71,12 @@ unfolding searched_paths
 no_text root name lists at old gone held = held ∙ ap (λ l. searched_paths root name (dirs_in l)) (drop_of_length-le lists gone)
 
 -- one more directory that a path is not below, or is
-pub below_next : (folder : List ℕ) (others entries : List (List ℕ)) (path : List ℕ) (all : Bool) → all ≡ is_below_any entries path → entries ≡ folder ∷ others → is_below folder path ≡ false
+pub below_next : (directory : List ℕ) (others entries : List (List ℕ)) (path : List ℕ) (all : Bool) → all ≡ is_below_any entries path → entries ≡ directory ∷ others → is_below directory path ≡ false
     → all ≡ is_below_any others path
 unfolding is_below_any
-below_next folder others entries path all held is isnt = held ∙ (ap (λ l. is_below_any l path) is ∙ rw (isnt, is_below_any) refl)
+below_next directory others entries path all held is isnt = held ∙ (ap (λ l. is_below_any l path) is ∙ rw (isnt, is_below_any) refl)
 
-pub below_found : (folder : List ℕ) (others entries : List (List ℕ)) (path : List ℕ) (all : Bool) → all ≡ is_below_any entries path → entries ≡ folder ∷ others → is_below folder path ≡ true
+pub below_found : (directory : List ℕ) (others entries : List (List ℕ)) (path : List ℕ) (all : Bool) → all ≡ is_below_any entries path → entries ≡ directory ∷ others → is_below directory path ≡ true
     → all ≡ true
 unfolding is_below_any
-below_found folder others entries path all held is found = held ∙ (ap (λ l. is_below_any l path) is ∙ rw (found, is_below_any) refl)
+below_found directory others entries path all held is found = held ∙ (ap (λ l. is_below_any l path) is ∙ rw (found, is_below_any) refl)
