@@ -166,7 +166,7 @@ module _ (files : ℕ → InputFile) where
 
 -- a name that an argument asks for: a reference of no file
 abbrev pub plain_reference : SymbolUse
-plain_reference = record { role = Reference; restricted = false; dropped = false; absolute = None }
+plain_reference = record { role = Reference; restricted = false; dropped = false; of_library = false; absolute = None }
 
 abbrev pub argument_symbol : List ℕ → LinkSymbol
 argument_symbol name = record { name = name; default_name = None; symbol = plain_reference }

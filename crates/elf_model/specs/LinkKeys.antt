@@ -116,11 +116,11 @@ key_changed entry symbol row (Enlarged size) = record entry { state = state.Comm
 key_changed entry symbol row (BecomesState made) =
     record entry { state = made; row = row; absolute = symbol.absolute; is_asked = entry.is_asked || asks_after entry.state made }
 
--- the row is the first that references the key, weakly or not; a dropped definition references
--- nothing
+-- the row is the first that references the key, weakly or not; neither a dropped definition nor a
+-- shared library counts
 abbrev pub references_by : SymbolUse → SymbolRole → (row : Option ℕ) → KeyEntry → KeyEntry
-references_by symbol Reference row entry = if symbol.dropped then entry else record entry { reference = first_row entry.reference row }
-references_by symbol WeakReference row entry = if symbol.dropped then entry else record entry { weak_reference = first_row entry.weak_reference row }
+references_by symbol Reference row entry = if symbol.dropped || symbol.of_library then entry else record entry { reference = first_row entry.reference row }
+references_by symbol WeakReference row entry = if symbol.dropped || symbol.of_library then entry else record entry { weak_reference = first_row entry.weak_reference row }
 references_by symbol _ row entry = entry
 
 -- what else is noted of a key: that it is met, and if by a file that is no shared library, that it is
@@ -128,7 +128,7 @@ references_by symbol _ row entry = entry
 abbrev pub noted : SymbolUse → (row : Option ℕ) → KeyEntry → KeyEntry
 noted symbol row entry = record entry {
   is_met = true;
-  is_own = entry.is_own || (is_some row && not (is_shared symbol.role));
+  is_own = entry.is_own || (is_some row && not symbol.of_library);
   is_gone = entry.is_gone || symbol.dropped;
 }
 

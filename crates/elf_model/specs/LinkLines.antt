@@ -49,13 +49,13 @@ file_fields index row = record {
 }
 
 unfoldable pub file_front : Format → (index : ℕ) → LinkRow → LinePrefix
-file_front format index row = front format (codes "name") (file_fields index row)
+file_front format index row = front format (codes "path") (file_fields index row)
 
 -- WHY A MEMBER IS TAKEN: its index, the row that made the key's state, and the key
 abbrev pub reason_fields : (index : ℕ) → (row : Option ℕ) → Fields
 reason_fields index row = record {
   letter = codes "W";
-  fields = Decimal (codes "index") 5 index ∷ index_field (codes "reference") row ∷ [];
+  fields = Decimal (codes "index") 5 index ∷ index_field (codes "needed_by") row ∷ [];
 }
 
 unfoldable pub reason_front : Format → (index : ℕ) → (row : Option ℕ) → LinePrefix
@@ -65,7 +65,7 @@ reason_front format index row = front format (codes "name") (reason_fields index
 abbrev pub key_fields : (state : List ℕ) → (definer reference : Option ℕ) → Fields
 key_fields state definer reference = record {
   letter = codes "G";
-  fields = ArgSpec (codes "state") 8 state ∷ index_field (codes "definer") definer ∷ index_field (codes "reference") reference ∷ [];
+  fields = ArgSpec (codes "state") 8 state ∷ index_field (codes "definer") definer ∷ index_field (codes "referrer") reference ∷ [];
 }
 
 unfoldable pub key_front : Format → (state : List ℕ) → (definer reference : Option ℕ) → LinePrefix
@@ -73,14 +73,14 @@ key_front format state definer reference = front format (codes "name") (key_fiel
 
 -- A FURTHER DEFINITION of a key: the row of its file
 abbrev pub further_fields : (row : Option ℕ) → Fields
-further_fields row = record { letter = codes "M"; fields = index_field (codes "definer") row ∷ [] }
+further_fields row = record { letter = codes "M"; fields = index_field (codes "index") row ∷ [] }
 
 unfoldable pub further_front : Format → (row : Option ℕ) → LinePrefix
 further_front format row = front format (codes "name") (further_fields row)
 
 -- WHAT AN UNDEFINED KEY IS OFFERED: the row of an archive whose index has it, and the member
 abbrev pub offer_fields : (row : ℕ) → (member : Option ℕ) → Fields
-offer_fields row member = record { letter = codes "O"; fields = Decimal (codes "index") 5 row ∷ index_field (codes "member") member ∷ [] }
+offer_fields row member = record { letter = codes "O"; fields = index_field (codes "index") (Some row) ∷ index_field (codes "member") member ∷ [] }
 
 unfoldable pub offer_front : Format → (row : ℕ) → (member : Option ℕ) → LinePrefix
 offer_front format row member = front format (codes "name") (offer_fields row member)
@@ -156,21 +156,20 @@ abbrev pub reference_of : KeyEntry → Option ℕ
 reference_of entry = elim entry.reference [ None ↦ entry.weak_reference | Some row ↦ Some row ]
 
 -- THE STATE OF A KEY AT THE END, in its line
-abbrev pub undefined_word : (is_referenced is_made is_available : Bool) → (otherwise : List ℕ) → List ℕ
-undefined_word is_referenced is_made is_available otherwise =
+abbrev pub undefined_word : (is_referenced is_made is_available : Bool) → List ℕ
+undefined_word is_referenced is_made is_available =
     if is_made then codes "linker"
     else if not is_referenced then codes "unused"
     else if is_available then codes "order"
-    else otherwise
+    else codes "undef"
 
 abbrev pub key_state_word : KeyState → (is_multiple is_referenced is_made is_available : Bool) → List ℕ
 key_state_word Defined is_multiple is_referenced is_made is_available = if is_multiple then codes "multiple" else codes "defined"
 key_state_word WeakDefined is_multiple is_referenced is_made is_available = codes "weakdef"
 key_state_word (state.Common size) is_multiple is_referenced is_made is_available = codes "common"
 key_state_word (Shared symbol) is_multiple is_referenced is_made is_available = codes "shared"
-key_state_word Undefined is_multiple is_referenced is_made is_available = undefined_word is_referenced is_made is_available (codes "undef")
-key_state_word Weak is_multiple is_referenced is_made is_available = undefined_word is_referenced is_made false (codes "weak")
-key_state_word New is_multiple is_referenced is_made is_available = undefined_word is_referenced is_made false (codes "unused")
+key_state_word Undefined is_multiple is_referenced is_made is_available = undefined_word is_referenced is_made is_available
+key_state_word _ is_multiple is_referenced is_made is_available = if is_made then codes "linker" else codes "weak"
 
 unfoldable pub word_of_key : LinkOutput → Linking → (key : ℕ) → List ℕ
 word_of_key output link key =

@@ -88,7 +88,7 @@ abbrev pub dropped_symbol : LinkSymbol → LinkSymbol
 dropped_symbol s = record {
   name = s.name;
   default_name = None;
-  symbol = record { role = reference_role s.symbol.role; restricted = s.symbol.restricted; dropped = true; absolute = None };
+  symbol = record { role = reference_role s.symbol.role; restricted = s.symbol.restricted; dropped = true; of_library = s.symbol.of_library; absolute = None };
 }
 
 unfoldable pub symbol_without : (sections : List ℕ) → ObjectSymbol → LinkSymbol

@@ -12,7 +12,7 @@ use Rattle.elf_model.specs.Names.DisplayedName.{Whole, Cut}
 use Rattle.elf_model.specs.Numbers.{EM_X86_64, ET_REL, SHN_ABS, SHN_COMMON, SHN_LORESERVE, SHN_UNDEF, SHT_SYMTAB, STB_GLOBAL, STB_GNU_UNIQUE, STB_WEAK, STT_FUNC, STT_GNU_IFUNC, STT_SECTION, STV_DEFAULT}
 use Rattle.elf_model.specs.Records.{e_machine, e_shnum, e_shstrndx, e_type, section_at, sh_flags, sh_info, sh_name, sh_offset, sh_size, sh_type, st_bind, st_name, st_shndx, st_size, st_type, st_value, st_visibility}
 use Rattle.elf_model.specs.Tables.{SYMBOL_SIZE, entry_at, entry_count, has_symbols, linked_at, section_bytes, strings_of, symbol_table_checks}
-use Rattle.elf_model.specs.declared.causes.Cause.TheVariants.{BadLink, SymbolIndex, TooLong}
+use Rattle.elf_model.specs.declared.causes.Cause.TheVariants.{BadLink, SymbolIndex}
 use Rattle.elf_model.specs.declared.causes.Refusal.{Refusal}
 use Rattle.elf_model.specs.declared.link_states.LinkCause.{LinkCause}
 use Rattle.elf_model.specs.declared.link_states.LinkCause.TheVariants.{Refused, FileType, Machine, Lto}
@@ -47,12 +47,12 @@ as_any refusal = record { at = refusal.at; cause = Refused refusal.cause }
 abbrev pub refused_at : {A : Type 0} → ℕ → LinkCause → Result A LinkRefusal
 refused_at at cause = Err (record { at = at; cause = cause })
 
--- the whole name of an index in a string table, of at most this many bytes, or the refusal at an
+-- the name at an index of a string table, which is no longer than the table, or the refusal at an
 -- offset
-unfoldable pub link_name : (cap : ℕ) → (strings : List ℕ) → (index at : ℕ) → Result (List ℕ) LinkRefusal
-link_name cap strings index at = elim (shown strings index cap) [
+unfoldable pub link_name : (strings : List ℕ) → (index at : ℕ) → Result (List ℕ) LinkRefusal
+link_name strings index at = elim (shown strings index (length strings)) [
   | Ok (Whole name) ↦ Ok name
-  | Ok (Cut front) ↦ refused_at at (Refused TooLong)
+  | Ok (Cut front) ↦ Ok front
   | Err cause ↦ refused_at at (Refused cause)
 ]
 
@@ -109,6 +109,7 @@ symbol_use file at = record {
   role = symbol_role file at;
   restricted = not (st_visibility file at == STV_DEFAULT);
   dropped = false;
+  of_library = false;
   absolute = absolute_value file at;
 }
 
@@ -136,9 +137,9 @@ abbrev pub symbol_called : List ℕ → ℕ → Result (List ℕ) LinkRefusal �
 symbol_called file at (Err refusal) = Err refusal
 symbol_called file at (Ok name) = if bytes_eq name LTO_MARK then refused_at at Lto else Ok (symbol_counts file at name)
 
-unfoldable pub link_symbol_at : (cap : ℕ) → List ℕ → (table_at at : ℕ) → Result (List ObjectSymbol) LinkRefusal
-link_symbol_at cap file table_at at =
-    if is_global file at then symbol_called file at (link_name cap (strings_of file table_at) (st_name file at) at) else Ok []
+unfoldable pub link_symbol_at : List ℕ → (table_at at : ℕ) → Result (List ObjectSymbol) LinkRefusal
+link_symbol_at file table_at at =
+    if is_global file at then symbol_called file at (link_name (strings_of file table_at) (st_name file at) at) else Ok []
 
 -- results of parts, up to the first refusal
 abbrev pub followed : {A : Type 0} → List A → Result (List A) LinkRefusal → Result (List A) LinkRefusal
@@ -150,28 +151,28 @@ and_then (Err refusal) rest = Err refusal
 and_then (Ok first) rest = followed first rest
 
 -- the symbols of a table from an index, this many
-unfoldable pub symbols_from : (cap : ℕ) → List ℕ → (table_at index count : ℕ) → Result (List ObjectSymbol) LinkRefusal
-symbols_from cap file table_at index zero = Ok []
-symbols_from cap file table_at index (suc count) =
-    and_then (link_symbol_at cap file table_at (entry_at file table_at SYMBOL_SIZE index)) (symbols_from cap file table_at (suc index) count)
+unfoldable pub symbols_from : List ℕ → (table_at index count : ℕ) → Result (List ObjectSymbol) LinkRefusal
+symbols_from file table_at index zero = Ok []
+symbols_from file table_at index (suc count) =
+    and_then (link_symbol_at file table_at (entry_at file table_at SYMBOL_SIZE index)) (symbols_from file table_at (suc index) count)
 
 -- THE SYMBOLS OF AN OBJECT: of its first symbol table, after the local ones
-abbrev pub symbols_of : (cap : ℕ) → List ℕ → (table_at : ℕ) → Result (List ObjectSymbol) LinkRefusal
-symbols_of cap file table_at =
-    symbols_from cap file table_at (sh_info file table_at) (entry_count file table_at SYMBOL_SIZE - sh_info file table_at)
+abbrev pub symbols_of : List ℕ → (table_at : ℕ) → Result (List ObjectSymbol) LinkRefusal
+symbols_of file table_at =
+    symbols_from file table_at (sh_info file table_at) (entry_count file table_at SYMBOL_SIZE - sh_info file table_at)
 
 -- the first symbol table's header
 abbrev pub symbol_table_in : List ℕ → Option ℕ
 symbol_table_in file = first_that (λ i. sh_type file (section_at file i) == SHT_SYMTAB) 0 (e_shnum file)
 
-abbrev pub symbols_if : (cap : ℕ) → List ℕ → Option ℕ → Result (List ObjectSymbol) LinkRefusal
-symbols_if cap file None = Ok []
-symbols_if cap file (Some table) = symbols_of cap file (section_at file table)
+abbrev pub symbols_if : List ℕ → Option ℕ → Result (List ObjectSymbol) LinkRefusal
+symbols_if file None = Ok []
+symbols_if file (Some table) = symbols_of file (section_at file table)
 
 -- the name of a section, which is empty if the file has no section of section names
-unfoldable pub section_link_name : (cap : ℕ) → List ℕ → (at : ℕ) → Result (List ℕ) LinkRefusal
-section_link_name cap file at =
-    if e_shstrndx file == 0 then Ok [] else link_name cap (section_bytes file (section_at file (e_shstrndx file))) (sh_name file at) at
+unfoldable pub section_link_name : List ℕ → (at : ℕ) → Result (List ℕ) LinkRefusal
+section_link_name file at =
+    if e_shstrndx file == 0 then Ok [] else link_name (section_bytes file (section_at file (e_shstrndx file))) (sh_name file at) at
 
 -- A SECTION GROUP: words of four bytes, the flags before the indexes of its sections; of a symbol table
 -- it has the symbol that is its signature
@@ -200,21 +201,21 @@ comdat_group file at (Err refusal) = Err refusal
 comdat_group file at (Ok signature) = Ok (record { signature = signature; is_link_once = false; sections = group_sections file at } ∷ [])
 
 -- the name of the signature: a section's symbol without a name has its section's
-abbrev pub signature_by : (cap : ℕ) → List ℕ → (at : ℕ) → Result (List ℕ) LinkRefusal → Result (List ℕ) LinkRefusal
-signature_by cap file at (Err refusal) = Err refusal
-signature_by cap file at (Ok (byte ∷ name)) = Ok (byte ∷ name)
-signature_by cap file at (Ok []) =
-    if st_type file at == STT_SECTION && nat_lt (st_shndx file at) (e_shnum file) then section_link_name cap file (section_at file (st_shndx file at)) else Ok []
+abbrev pub signature_by : List ℕ → (at : ℕ) → Result (List ℕ) LinkRefusal → Result (List ℕ) LinkRefusal
+signature_by file at (Err refusal) = Err refusal
+signature_by file at (Ok (byte ∷ name)) = Ok (byte ∷ name)
+signature_by file at (Ok []) =
+    if st_type file at == STT_SECTION && nat_lt (st_shndx file at) (e_shnum file) then section_link_name file (section_at file (st_shndx file at)) else Ok []
 
-unfoldable pub signature_of : (cap : ℕ) → List ℕ → (at : ℕ) → Result (List ℕ) LinkRefusal
-signature_of cap file at =
+unfoldable pub signature_of : List ℕ → (at : ℕ) → Result (List ℕ) LinkRefusal
+signature_of file at =
     let link_symbol_at = entry_at file (linked_at file at) SYMBOL_SIZE (sh_info file at) in
-    signature_by cap file link_symbol_at (link_name cap (strings_of file (linked_at file at)) (st_name file link_symbol_at) link_symbol_at)
+    signature_by file link_symbol_at (link_name (strings_of file (linked_at file at)) (st_name file link_symbol_at) link_symbol_at)
 
-unfoldable pub group_in : (cap : ℕ) → List ℕ → (at : ℕ) → Result (List SectionGroup) LinkRefusal
-group_in cap file at = elim (first_refusal (group_checks file at)) [
+unfoldable pub group_in : List ℕ → (at : ℕ) → Result (List SectionGroup) LinkRefusal
+group_in file at = elim (first_refusal (group_checks file at)) [
   | Some refusal ↦ Err (as_any refusal)
-  | None ↦ if is_comdat file at then comdat_group file at (signature_of cap file at) else Ok []
+  | None ↦ if is_comdat file at then comdat_group file at (signature_of file at) else Ok []
 ]
 
 -- a link-once section, in no group
@@ -231,14 +232,14 @@ group_named file at index (Ok name) =
     Ok (if is_link_once file at name then record { signature = name; is_link_once = true; sections = index ∷ [] } ∷ [] else [])
 
 -- THE GROUPS OF AN OBJECT, in the order of its sections
-unfoldable pub groups_at : (cap : ℕ) → List ℕ → (index : ℕ) → Result (List SectionGroup) LinkRefusal
-groups_at cap file index =
+unfoldable pub groups_at : List ℕ → (index : ℕ) → Result (List SectionGroup) LinkRefusal
+groups_at file index =
     let at = section_at file index in
-    if sh_type file at == SHT_GROUP then group_in cap file at else group_named file at index (section_link_name cap file at)
+    if sh_type file at == SHT_GROUP then group_in file at else group_named file at index (section_link_name file at)
 
-unfoldable pub groups_from : (cap : ℕ) → List ℕ → (index count : ℕ) → Result (List SectionGroup) LinkRefusal
-groups_from cap file index zero = Ok []
-groups_from cap file index (suc count) = and_then (groups_at cap file index) (groups_from cap file (suc index) count)
+unfoldable pub groups_from : List ℕ → (index count : ℕ) → Result (List SectionGroup) LinkRefusal
+groups_from file index zero = Ok []
+groups_from file index (suc count) = and_then (groups_at file index) (groups_from file (suc index) count)
 
 -- THE SECTIONS whose names are identifiers of C: letters, digits and underscores
 abbrev pub is_identifier_byte : ℕ → Bool
@@ -252,10 +253,10 @@ abbrev pub section_named : (index : ℕ) → Result (List ℕ) LinkRefusal → R
 section_named index (Err refusal) = Err refusal
 section_named index (Ok name) = Ok (if is_identifier name then record { name = name; index = index } ∷ [] else [])
 
-unfoldable pub sections_from : (cap : ℕ) → List ℕ → (index count : ℕ) → Result (List NamedSection) LinkRefusal
-sections_from cap file index zero = Ok []
-sections_from cap file index (suc count) =
-    and_then (section_named index (section_link_name cap file (section_at file index))) (sections_from cap file (suc index) count)
+unfoldable pub sections_from : List ℕ → (index count : ℕ) → Result (List NamedSection) LinkRefusal
+sections_from file index zero = Ok []
+sections_from file index (suc count) =
+    and_then (section_named index (section_link_name file (section_at file index))) (sections_from file (suc index) count)
 
 -- THE CHECKS OF AN OBJECT before its sections: header, type and machine, section headers and the table
 -- of their names, and the symbol table
@@ -288,11 +289,11 @@ object_by (Ok groups) (Err refusal) symbols = Err refusal
 object_by (Ok groups) (Ok sections) (Err refusal) = Err refusal
 object_by (Ok groups) (Ok sections) (Ok symbols) = Ok (record { groups = groups; sections = sections; symbols = symbols })
 
--- AN OBJECT by its bytes, with this many headers allowed and names of at most this many bytes
-unfoldable pub object_of : List ℕ → (headers cap : ℕ) → Result LinkObject LinkRefusal
-object_of file headers cap = elim (object_refusal file headers) [
+-- AN OBJECT by its bytes, with this many headers allowed
+unfoldable pub object_of : List ℕ → (headers : ℕ) → Result LinkObject LinkRefusal
+object_of file headers = elim (object_refusal file headers) [
   | Some refusal ↦ Err refusal
-  | None ↦ object_by (groups_from cap file 0 (e_shnum file)) (sections_from cap file 0 (e_shnum file)) (symbols_if cap file (symbol_table_in file))
+  | None ↦ object_by (groups_from file 0 (e_shnum file)) (sections_from file 0 (e_shnum file)) (symbols_if file (symbol_table_in file))
 ]
 
 -- THE FIRST SYMBOL OF A NAME in an object is a definition, not weak and no function: only it is
@@ -306,27 +307,27 @@ abbrev pub is_that : Result (List ℕ) LinkRefusal → List ℕ → Bool
 is_that (Err refusal) name = false
 is_that (Ok other) name = bytes_eq other name
 
-abbrev pub names_symbol : (cap : ℕ) → List ℕ → (table_at at : ℕ) → (name : List ℕ) → Bool
-names_symbol cap file table_at at name = is_global file at && is_that (link_name cap (strings_of file table_at) (st_name file at) at) name
+abbrev pub names_symbol : List ℕ → (table_at at : ℕ) → (name : List ℕ) → Bool
+names_symbol file table_at at name = is_global file at && is_that (link_name (strings_of file table_at) (st_name file at) at) name
 
-unfoldable pub defines_from : (cap : ℕ) → List ℕ → (table_at index count : ℕ) → (name : List ℕ) → Bool
-defines_from cap file table_at index zero name = false
-defines_from cap file table_at index (suc count) name =
+unfoldable pub defines_from : List ℕ → (table_at index count : ℕ) → (name : List ℕ) → Bool
+defines_from file table_at index zero name = false
+defines_from file table_at index (suc count) name =
     let at = entry_at file table_at SYMBOL_SIZE index in
-    elim (names_symbol cap file table_at at name) [
+    elim (names_symbol file table_at at name) [
       | true ↦ is_data_definition file at
-      | false ↦ defines_from cap file table_at (suc index) count name
+      | false ↦ defines_from file table_at (suc index) count name
     ]
 
-abbrev pub defines_if : (cap : ℕ) → List ℕ → Option ℕ → (name : List ℕ) → Bool
-defines_if cap file None name = false
-defines_if cap file (Some table) name =
+abbrev pub defines_if : List ℕ → Option ℕ → (name : List ℕ) → Bool
+defines_if file None name = false
+defines_if file (Some table) name =
     let table_at = section_at file table in
-    defines_from cap file table_at (sh_info file table_at) (entry_count file table_at SYMBOL_SIZE - sh_info file table_at) name
+    defines_from file table_at (sh_info file table_at) (entry_count file table_at SYMBOL_SIZE - sh_info file table_at) name
 
 -- a file that is refused defines nothing
-unfoldable pub object_defines : List ℕ → (headers cap : ℕ) → (name : List ℕ) → Bool
-object_defines file headers cap name = elim (object_refusal file headers) [
+unfoldable pub object_defines : List ℕ → (headers : ℕ) → (name : List ℕ) → Bool
+object_defines file headers name = elim (object_refusal file headers) [
   | Some refusal ↦ false
-  | None ↦ defines_if cap file (symbol_table_in file) name
+  | None ↦ defines_if file (symbol_table_in file) name
 ]

@@ -81,6 +81,8 @@ pub struct SymbolUse {
     pub restricted: bool,
     /// Whether it is a reference only because its section is dropped.
     pub dropped: bool,
+    /// Whether a shared library has it.
+    pub of_library: bool,
     /// The value of an absolute definition.
     pub absolute: Option<u64>,
 }

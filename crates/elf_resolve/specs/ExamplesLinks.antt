@@ -14,7 +14,7 @@ use Rattle.elf_model.specs.declared.link_states.SymbolRole.TheVariants.{WeakRefe
 -- a symbol of a name, in a section if it is a definition
 abbrev in_section : (section : Option ℕ) → SymbolRole → List ℕ → ObjectSymbol
 in_section section role name = record {
-  symbol = record { name = name; default_name = None; symbol = record { role = role; restricted = false; dropped = false; absolute = None } };
+  symbol = record { name = name; default_name = None; symbol = record { role = role; restricted = false; dropped = false; of_library = false; absolute = None } };
   section = section;
 }
 
@@ -50,7 +50,7 @@ indexed name member = record { name = name; default_name = None; member = member
 
 abbrev versioned : (name default_name : List ℕ) → ObjectSymbol
 versioned name default_name = record {
-  symbol = record { name = name; default_name = Some default_name; symbol = record { role = Definition; restricted = false; dropped = false; absolute = None } };
+  symbol = record { name = name; default_name = Some default_name; symbol = record { role = Definition; restricted = false; dropped = false; of_library = false; absolute = None } };
   section = Some 1;
 }
 
