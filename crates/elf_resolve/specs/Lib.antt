@@ -11,3 +11,4 @@ pub mod LinkMembers
 pub mod MemberExtents
 pub mod Ranges
 pub mod Lines
+pub mod StringBuffers

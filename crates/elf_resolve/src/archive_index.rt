@@ -48,6 +48,7 @@ pub(crate) fn read_index<S: Source>(
     }
     strings.forget_after(0);
     let parts = index_parts(src, strings)?;
+    let used = strings.used();
     let mut next = 0;
     for index in 0..parts.count {
         let name = entry_name(strings, parts.names, next)?;
@@ -59,6 +60,7 @@ pub(crate) fn read_index<S: Source>(
         };
         let entry = index_entry(strings, name, member, at, keys)?;
         tables.add_entry(entry, at)?;
+        strings.forget_after(used);
     }
     Ok(())
 }

@@ -28,6 +28,7 @@ impl Resolver<'_> {
         let first = self.tables.members.len();
         let entries = self.tables.entries.len();
         let names = self.tables.walk(src)?;
+        let _ = self.taken.resize(self.tables.members.len(), false);
         if !is_whole {
             let keys = &mut self.link.keys;
             read_index(

@@ -1,16 +1,16 @@
 //! A shared library that is read: its name, and whether it is needed.
-ghost use Rattle.std.specs.Prelude.{◌≡◌, IfOk};
-
 use crate::libraries::{LibraryList, LinkLibrary};
 use crate::library::{DynamicRows, LibraryTables, read_library};
 use crate::library_symbols::{library_need, take_library_symbols};
 use crate::link_faults::LinkFault;
 use crate::needed_libraries::{LibraryEnd, NewLibrary};
+use crate::object::linked_header;
 use crate::room::{LinkRoom, TableRoom};
 use crate::string_buffer::{HeldText, StringBuffer};
 use crate::table::KeyTable;
+use elf_record::numbers::ET_DYN;
 use elf_source::{Counted, Source};
-use elf_table::{HeaderStore, SectionView};
+use elf_table::{SectionView, load};
 
 /// Reads the tables of a library.
 ///
@@ -18,13 +18,11 @@ use elf_table::{HeaderStore, SectionView};
 /// The first fault of the library; there is no room for them.
 pub(crate) fn read_library_tables<S: Source>(
     src: &mut Counted<S>,
-    store: &mut HeaderStore,
+    view: &SectionView<'_>,
     room: &mut TableRoom,
     row: u32,
-) -> Result<LibraryTables, LinkFault>
-    ensures { IfOk result (λ tables. store.new.loaded ≡ tables.loaded.header.e_shnum) }
-{
-    read_library(src, store, &mut room.strings, &mut room.versions, row)
+) -> Result<LibraryTables, LinkFault> {
+    read_library(src, view, &mut room.strings, &mut room.versions, row)
 }
 
 /// Reads a library for the first time, and takes it if it is needed.
@@ -38,8 +36,14 @@ pub(crate) fn open_library<S: Source>(
     libraries: &mut LibraryList,
     opened: NewLibrary<'_>,
 ) -> Result<LibraryEnd, LinkFault> {
-    let mut store = room.headers.store();
-    add_library(src, &mut store, &mut room.tables, keys, libraries, opened)
+    let head = linked_header(src, ET_DYN)?;
+    let mut store = room.headers.store_for(&head);
+    let loaded = load(src, &mut store, &head)?;
+    let view = SectionView {
+        loaded,
+        store: &store,
+    };
+    add_library(src, &view, &mut room.tables, keys, libraries, opened)
 }
 
 /// Adds a library, and takes it if it is needed: its name is its DT_SONAME, or its path.
@@ -48,13 +52,13 @@ pub(crate) fn open_library<S: Source>(
 /// The first fault of the library; there is no room for it or a key.
 fn add_library<S: Source>(
     src: &mut Counted<S>,
-    store: &mut HeaderStore,
+    view: &SectionView<'_>,
     room: &mut TableRoom,
     keys: &mut KeyTable<'_>,
     libraries: &mut LibraryList,
     opened: NewLibrary<'_>,
 ) -> Result<LibraryEnd, LinkFault> {
-    let tables = read_library_tables(src, store, room, opened.row)?;
+    let tables = read_library_tables(src, view, room, opened.row)?;
     let dynamic = tables.dynamic;
     let name = library_name(dynamic, &room.strings, libraries, opened.path)?;
     if libraries.has(name) {
@@ -68,7 +72,7 @@ fn add_library<S: Source>(
         is_taken: false,
     })?;
     add_needed(dynamic, &room.strings, libraries)?;
-    ask_library(store, tables, room, keys, libraries, library)
+    ask_library(view, tables, room, keys, libraries, library)
 }
 
 /// Adds the names that a library needs, which is the last of a list.
@@ -98,9 +102,15 @@ pub(crate) fn reopen_library<S: Source>(
     known: (usize, u32),
 ) -> Result<LibraryEnd, LinkFault> {
     let (library, row) = known;
-    let mut store = room.headers.store();
-    let tables = read_library_tables(src, &mut store, &mut room.tables, row)?;
-    ask_library(&store, tables, &mut room.tables, keys, libraries, library)
+    let head = linked_header(src, ET_DYN)?;
+    let mut store = room.headers.store_for(&head);
+    let loaded = load(src, &mut store, &head)?;
+    let view = SectionView {
+        loaded,
+        store: &store,
+    };
+    let tables = read_library_tables(src, &view, &mut room.tables, row)?;
+    ask_library(&view, tables, &mut room.tables, keys, libraries, library)
 }
 
 /// Keeps the name of a library.
@@ -128,30 +138,24 @@ fn library_name(
 /// # Errors
 /// The first fault of a symbol; there is no room for a key.
 fn ask_library(
-    store: &HeaderStore,
+    view: &SectionView<'_>,
     tables: LibraryTables,
     room: &mut TableRoom,
     keys: &mut KeyTable<'_>,
     libraries: &mut LibraryList,
     library: usize,
-) -> Result<LibraryEnd, LinkFault>
-    requires { store.now.loaded ≡ tables.loaded.header.e_shnum }
-{
-    let view = SectionView {
-        loaded: tables.loaded,
-        store,
-    };
+) -> Result<LibraryEnd, LinkFault> {
     let Some(known) = libraries.get(library) else {
         return Ok(LibraryEnd::Taken);
     };
     if known.as_needed {
-        if !is_asked_for(&view, tables, room, keys, libraries, known.name)? {
+        if !is_asked_for(view, tables, room, keys, libraries, known.name)? {
             return Ok(LibraryEnd::Unneeded(library));
         }
     }
     libraries.take(library);
     take_library_symbols(
-        &view,
+        view,
         tables,
         &room.versions,
         &mut room.strings,

@@ -88,11 +88,6 @@ impl Resolver<'_> {
         }
     }
 
-    /// Returns `true` if an object has a symbol of a key.
-    pub(crate) fn is_own(&self, key: u32) -> bool {
-        self.room.tables.marks.get(key).is_own
-    }
-
     /// Returns what the link says of a key, by the entry that [`Resolver::settled`] returns.
     pub(crate) fn state_of(&self, key: u32, entry: &KeyEntry) -> FoundState {
         match entry.state {
@@ -117,8 +112,7 @@ impl Resolver<'_> {
         if !matches!(entry.state, KeyState::Undefined) {
             return FoundState::Weak;
         }
-        let mark = self.room.tables.marks.get(key);
-        if mark.reference.is_none() && mark.weak_reference.is_none() {
+        if entry.reference.is_none() && entry.weak_reference.is_none() {
             return FoundState::Unused;
         }
         if self.offers.first(key).is_some() || self.spare.first(key).is_some() {

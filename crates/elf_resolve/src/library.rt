@@ -1,16 +1,14 @@
 //! A shared library of a link: its symbols with their versions, and what its dynamic entries say.
-ghost use Rattle.std.specs.Prelude.{◌≡◌, IfOk};
-
 use crate::libraries::LibraryList;
 use crate::link_faults::{LinkFault, file_refused};
-use crate::object::{SymbolRows, load_headers, read_first_symbols, read_names};
+use crate::object::{SymbolRows, read_first_symbols, read_names};
 use crate::string_buffer::{HeldText, StringBuffer, part_of};
 use crate::version_names::{VersionNames, VersionSection};
 use elf_record::gnu_numbers::{SHT_GNU_VERDEF, SHT_GNU_VERNEED, SHT_GNU_VERSYM};
-use elf_record::numbers::{DT_NEEDED, DT_NULL, DT_SONAME, ET_DYN, SHT_DYNAMIC, SHT_DYNSYM};
+use elf_record::numbers::{DT_NEEDED, DT_NULL, DT_SONAME, SHT_DYNAMIC, SHT_DYNSYM};
 use elf_record::{Cause, u16_at, u64_at};
 use elf_source::{Counted, Source};
-use elf_table::{HeaderStore, Loaded, SectionView};
+use elf_table::SectionView;
 
 /// The size of a dynamic entry in bytes.
 const DYNAMIC_BYTES: usize = 16;
@@ -23,8 +21,6 @@ const INDEX_BYTES: usize = 2;
 pub(crate) struct LibraryTables {
     /// The row of the library.
     pub row: u32,
-    /// The file, whose section headers are in a store.
-    pub loaded: Loaded,
     /// Its symbols for dynamic linking.
     pub symbols: Option<SymbolRows>,
     /// The versions of its symbols.
@@ -58,30 +54,25 @@ pub(crate) struct DynamicRows {
 /// Reads the tables of a shared library, and the names of its versions.
 ///
 /// # Errors
-/// The first fault of its headers, its symbol table, its dynamic entries and its versions; there is
+/// The first fault of its symbol table, its dynamic entries and its versions; there is
 /// no room for them.
 pub(crate) fn read_library<S: Source>(
     src: &mut Counted<S>,
-    store: &mut HeaderStore,
+    view: &SectionView<'_>,
     strings: &mut StringBuffer,
     versions: &mut VersionNames,
     row: u32,
-) -> Result<LibraryTables, LinkFault>
-    ensures { IfOk result (λ tables. store.new.loaded ≡ tables.loaded.header.e_shnum) }
-{
-    let loaded = load_headers(src, store, ET_DYN)?;
-    let view = SectionView { loaded, store };
+) -> Result<LibraryTables, LinkFault> {
     strings.forget_after(0);
     versions.clear();
-    let symbols = read_first_symbols(src, &view, SHT_DYNSYM, strings)?;
-    let dynamic = read_dynamic(src, &view, strings)?;
-    let rows = read_version_rows(src, &view, strings)?;
+    let symbols = read_first_symbols(src, view, SHT_DYNSYM, strings)?;
+    let dynamic = read_dynamic(src, view, strings)?;
+    let rows = read_version_rows(src, view, strings)?;
     if rows.is_some() && symbols.is_some() {
-        read_version_names(src, &view, strings, versions)?;
+        read_version_names(src, view, strings, versions)?;
     }
     Ok(LibraryTables {
         row,
-        loaded,
         symbols,
         versions: rows,
         dynamic,

@@ -186,11 +186,13 @@ pub(crate) fn library_need(
     marks: &KeyMarks,
 ) -> Result<LibraryNeed, LinkFault> {
     let mut need = NO_NEED;
+    let used = strings.used();
     let (first, count) = tables.symbol_range();
     for index in first..count {
         if let Some(symbol) = library_symbol(view, tables, versions, strings, index)? {
             need = need.joined(symbol_need(&symbol, strings, keys, marks));
         }
+        strings.forget_after(used);
     }
     Ok(need)
 }
@@ -278,11 +280,13 @@ pub(crate) fn take_library_symbols(
     keys: &mut KeyTable<'_>,
     marks: &mut KeyMarks,
 ) -> Result<(), LinkFault> {
+    let used = strings.used();
     let (first, count) = tables.symbol_range();
     for index in first..count {
         if let Some(symbol) = library_symbol(view, tables, versions, strings, index)? {
             take_at(&symbol, strings, keys, marks, tables.row)?;
         }
+        strings.forget_after(used);
     }
     Ok(())
 }
@@ -319,6 +323,7 @@ fn take_symbol(
         role: symbol.role,
         restricted: false,
         dropped: false,
+        of_library: true,
         absolute: None,
     };
     keys.take(

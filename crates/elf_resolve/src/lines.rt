@@ -217,7 +217,7 @@ fn show_keys<W: Sink, R: Render>(
     let mut status = 0;
     for key in link.link.keys.order() {
         let entry = link.settled(*key);
-        if link.is_own(*key) {
+        if entry.is_own {
             let state = link.state_of(*key, &entry);
             if state.is_fault() {
                 status = 1;
@@ -243,10 +243,9 @@ fn show_key<W: Sink, R: Render>(
     out: &mut Out<W>,
 ) -> Result<(), OutFault> {
     let name = link.link.keys.name(key);
-    let noted = link.room.tables.marks.get(key);
-    let referrer = match noted.reference {
+    let referrer = match entry.reference {
         Some(row) => Some(row),
-        None => noted.weak_reference,
+        None => entry.weak_reference,
     };
     let mut front = LinePrefix::new();
     begin_named::<R>(&mut front, b"G", b"name");

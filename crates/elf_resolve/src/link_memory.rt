@@ -86,7 +86,7 @@ impl RowMarks {
     /// Out of memory.
     pub(crate) fn new(alloc: Global, caps: &LinkCaps) -> Result<RowMarks, AllocError> {
         Ok(RowMarks {
-            taken: vec![in alloc; false; caps.index as usize]?,
+            taken: Vec::with_capacity(alloc, caps.index as usize)?,
             problems: vec![in alloc; false; caps.rows as usize]?,
             kinds: vec![in alloc; None; caps.rows as usize]?,
             libraries: LibraryList::new(alloc, caps.rows)?,

@@ -4,7 +4,7 @@ ghost use Rattle.elf_resolve.specs.LinkMembers.{unknown_members};
 use crate::archive_index::{INDEX_32, INDEX_64};
 use crate::archives::{OpenedArchive, member_cut, read_header_at};
 use crate::link_faults::{LinkFault, in_member};
-use crate::object::{load_headers, read_tables, take_object};
+use crate::object::{SymbolRows, linked_header, read_tables, take_object};
 use crate::object_symbols::{global_in, is_data_definition};
 use crate::passes::ArchiveObjects;
 use crate::room::LinkRoom;
@@ -15,7 +15,7 @@ use elf_model::{IndexEntry, LinkCause};
 use elf_record::numbers::ET_REL;
 use elf_record::{Cause, Sym};
 use elf_source::{Counted, RangeSource, Source};
-use elf_table::{HeaderStore, SectionView};
+use elf_table::{SectionView, load};
 
 /// The name field of the table of names.
 const NAMES: &[u8; 16] = b"//              ";
@@ -45,6 +45,14 @@ fn place_of(members: &[u64], member: u32) -> Result<u64, LinkFault> {
     match members.get(member as usize) {
         Some(at) => Ok(*at),
         None => Err(member_cut(0)),
+    }
+}
+
+/// Returns the table of names, if it is before the header at a file offset.
+fn names_before(names: Option<FileRange>, at: u64) -> Option<FileRange> {
+    match names {
+        Some(table) if table.at <= at => Some(table),
+        _ => None,
     }
 }
 
@@ -82,7 +90,7 @@ impl<S: Source> MembersOfArchive<'_, S> {
     ) -> Result<(), LinkFault> {
         let at = place_of(self.members, member)?;
         self.src.widen();
-        let names = self.archive.names;
+        let names = names_before(self.archive.names, at);
         let extent = self.room.names.read(self.src, names, at, row)?;
         narrow_to(self.src, extent)?;
         let taken = take_object(self.src, self.room, keys, row);
@@ -172,8 +180,7 @@ fn defines<S: Source>(
     entry: IndexEntry,
     keys: &KeyTable<'_>,
 ) -> Result<bool, LinkFault> {
-    let mut store = room.headers.store();
-    match find_definition(src, &mut store, &mut room.tables.strings, entry, keys) {
+    match find_definition(src, room, entry, keys) {
         Ok(found) => Ok(found),
         Err(fault) if is_of_object(&fault) => Ok(false),
         Err(fault) => Err(fault),
@@ -198,25 +205,40 @@ fn is_of_object(fault: &LinkFault) -> bool {
 /// Those of its headers and its symbol table.
 fn find_definition<S: Source>(
     src: &mut Counted<S>,
-    store: &mut HeaderStore,
-    strings: &mut StringBuffer,
+    room: &mut LinkRoom,
     entry: IndexEntry,
     keys: &KeyTable<'_>,
 ) -> Result<bool, LinkFault> {
-    let loaded = load_headers(src, store, ET_REL)?;
-    let view = SectionView { loaded, store };
-    let tables = read_tables(src, &view, strings)?;
-    let Some(symbols) = tables.symbols else {
-        return Ok(false);
+    let head = linked_header(src, ET_REL)?;
+    let mut store = room.headers.store_for(&head);
+    let loaded = load(src, &mut store, &head)?;
+    let view = SectionView {
+        loaded,
+        store: &store,
     };
+    let tables = read_tables(src, &view, &mut room.tables.strings)?;
+    match tables.symbols {
+        Some(symbols) => Ok(is_first_definition(symbols, &room.tables.strings, entry, keys)),
+        None => Ok(false),
+    }
+}
+
+/// Returns whether the first symbol of an entry's name among those of a table is a definition, not
+/// weak and no function.
+fn is_first_definition(
+    symbols: SymbolRows,
+    strings: &StringBuffer,
+    entry: IndexEntry,
+    keys: &KeyTable<'_>,
+) -> bool {
     for index in symbols.first..symbols.count {
         if let Some(symbol) = global_in(strings.bytes(symbols.rows), index) {
             if is_named(&symbol, symbols.names, strings, entry, keys) {
-                return Ok(is_data_definition(&symbol));
+                return is_data_definition(&symbol);
             }
         }
     }
-    Ok(false)
+    false
 }
 
 /// Returns whether a symbol has the name of an entry; one without a valid name has not.

@@ -1,5 +1,5 @@
 //! An object of a link: its headers, its symbol table and its string tables.
-ghost use Rattle.std.specs.Prelude.{◌≡◌, ◌<◌, IfOk};
+ghost use Rattle.std.specs.Prelude.{◌<◌};
 
 use crate::link_faults::{LinkFault, refused};
 use crate::object_symbols::take_symbols;
@@ -8,10 +8,10 @@ use crate::section_groups::{drop_groups, note_sections};
 use crate::string_buffer::{HeldText, StringBuffer, part_of};
 use crate::table::KeyTable;
 use elf_model::LinkCause;
-use elf_record::Sym;
 use elf_record::numbers::{EM_X86_64, ET_REL, SHT_SYMTAB};
+use elf_record::{Ehdr, Sym};
 use elf_source::{Counted, Source};
-use elf_table::{HeaderStore, Loaded, Names, SectionView, Table, header, load};
+use elf_table::{Names, SectionView, Table, header, load};
 
 /// The offset of the type in a file header, in bytes (gABI 4, ELF Header).
 const TYPE_AT: u64 = 16;
@@ -62,49 +62,50 @@ pub(crate) fn take_object<S: Source>(
     keys: &mut KeyTable<'_>,
     row: u32,
 ) -> Result<(), LinkFault> {
-    let mut store = room.headers.store();
-    take_into(src, &mut store, &mut room.tables, keys, row)
+    let head = linked_header(src, ET_REL)?;
+    let mut store = room.headers.store_for(&head);
+    let loaded = load(src, &mut store, &head)?;
+    let view = SectionView {
+        loaded,
+        store: &store,
+    };
+    take_sections(src, &view, &mut room.tables, keys, row)
 }
 
-/// Takes an object, with its section headers in a store.
+/// Takes an object whose section headers are loaded.
 ///
 /// # Errors
 /// Those of [`take_object`].
-fn take_into<S: Source>(
+fn take_sections<S: Source>(
     src: &mut Counted<S>,
-    store: &mut HeaderStore,
+    view: &SectionView<'_>,
     room: &mut TableRoom,
     keys: &mut KeyTable<'_>,
     row: u32,
 ) -> Result<(), LinkFault> {
-    let loaded = load_headers(src, store, ET_REL)?;
-    let view = SectionView { loaded, store };
-    let tables = read_tables(src, &view, &mut room.strings)?;
+    let tables = read_tables(src, view, &mut room.strings)?;
     room.sections.clear(view.sections());
     drop_groups(
         src,
-        &view,
+        view,
         tables,
         &mut room.strings,
         &mut room.sections,
         keys,
     )?;
-    note_sections(&view, tables, &room.strings, &room.sections, keys)?;
+    note_sections(view, tables, &room.strings, &room.sections, keys)?;
     let strings = &mut room.strings;
     take_symbols(tables, strings, &room.sections, keys, &mut room.marks, row)
 }
 
-/// Loads the section headers of a file for x86-64 of a type.
+/// Reads the header of a file for x86-64 of a type.
 ///
 /// # Errors
-/// Those of the header, `FileType` at 16 and `Machine` at 18; those of loading.
-pub(crate) fn load_headers<S: Source>(
+/// Those of the header, `FileType` at 16 and `Machine` at 18.
+pub(crate) fn linked_header<S: Source>(
     src: &mut Counted<S>,
-    store: &mut HeaderStore,
     wanted: u16,
-) -> Result<Loaded, LinkFault>
-    ensures { IfOk result (λ loaded. store.new.loaded ≡ loaded.header.e_shnum) }
-{
+) -> Result<Ehdr, LinkFault> {
     let head = header(src)?;
     if head.e_type != wanted {
         return refused(TYPE_AT, LinkCause::FileType);
@@ -112,8 +113,7 @@ pub(crate) fn load_headers<S: Source>(
     if head.e_machine != EM_X86_64 {
         return refused(MACHINE_AT, LinkCause::Machine);
     }
-    let loaded = load(src, store, &head)?;
-    Ok(loaded)
+    Ok(head)
 }
 
 /// Reads the symbols of the first symbol table and their names, and the names of sections.

@@ -40,12 +40,14 @@ pub(crate) fn take_symbols(
     let Some(symbols) = tables.symbols else {
         return Ok(());
     };
+    let used = strings.used();
     for index in symbols.first..symbols.count {
         if let Some(symbol) = global_in(strings.bytes(symbols.rows), index) {
             let at = symbols.place(index);
             let name = strings.name(symbols.names, u64::from(symbol.st_name), at)?;
             let symbol = use_of(&symbol, is_in_dropped(&symbol, sections));
             take_symbol(NamedUse { name, symbol, at }, strings, keys, marks, row)?;
+            strings.forget_after(used);
         }
     }
     Ok(())
@@ -89,7 +91,7 @@ fn take_symbol(
     let (name, default) = key_names(strings, name, symbol.role, at)?;
     match take_names(strings, name, default, symbol, keys, row) {
         Ok(()) => {
-            note_names(strings, (name, default), symbol, keys, marks, row);
+            note_names(strings, (name, default), symbol, keys, marks);
             Ok(())
         }
         Err(fault) => Err(full(at, fault)),
@@ -103,18 +105,17 @@ fn note_names(
     symbol: SymbolUse,
     keys: &KeyTable<'_>,
     marks: &mut KeyMarks,
-    row: u32,
 ) {
     let (name, default) = names;
     if let Some(key) = keys.find(strings.bytes(name)) {
-        marks.note_object(key, symbol, row);
+        marks.note_object(key, symbol);
     }
     let Some(default) = default else {
         return;
     };
     if let Some(key) = keys.find(strings.bytes(default)) {
         if keys.entry(key).is_own {
-            marks.note_object(key, symbol, row);
+            marks.note_object(key, symbol);
         }
     }
 }
@@ -178,6 +179,7 @@ fn use_of(symbol: &Sym, dropped: bool) -> SymbolUse {
         role,
         restricted: symbol.visibility() != STV_DEFAULT,
         dropped,
+        of_library: false,
         absolute: absolute_value(symbol),
     }
 }

@@ -12,11 +12,10 @@ impl Resolver<'_> {
             };
             let entry = self.settled(key);
             let state = self.state_of(key, &entry);
-            if self.is_own(key) && state.is_fault() {
-                let noted = self.room.tables.marks.get(key);
+            if entry.is_own && state.is_fault() {
                 self.mark(entry.row);
-                self.mark(noted.reference);
-                self.mark(noted.weak_reference);
+                self.mark(entry.reference);
+                self.mark(entry.weak_reference);
                 self.mark_further(key);
                 self.mark_offers(key);
                 self.mark_spare(key);

@@ -22,6 +22,7 @@ const ASKED: SymbolUse = SymbolUse {
     role: SymbolRole::Reference,
     restricted: false,
     dropped: false,
+    of_library: false,
     absolute: None,
 };
 

@@ -46,7 +46,7 @@ impl TableRoom {
     fn new(alloc: Global, caps: &LinkCaps) -> Result<TableRoom, AllocError> {
         Ok(TableRoom {
             strings: StringBuffer::new(alloc, caps.key_bytes)?,
-            sections: SectionMarks::new(alloc, caps.headers)?,
+            sections: SectionMarks::new(alloc)?,
             versions: VersionNames::new(alloc)?,
             marks: KeyMarks::new(alloc, caps.keys)?,
         })

@@ -1,6 +1,10 @@
 //! Which sections of an object are dropped.
 
 use std::alloc::{AllocError, Global};
+use std::marker::Model;
+
+/// How many sections an object can have.
+const MOST_SECTIONS: usize = 65_535;
 
 /// Whether each section of an object is dropped.
 #[derive(Drop)]
@@ -8,21 +12,30 @@ pub(crate) struct SectionMarks {
     marks: Vec<bool>,
 }
 
+impl Model for SectionMarks {
+    ghost use Rattle.std.specs.Prelude.{Bool, List, ◌≤◌, vec_capacity};
+
+    ghost Value = { List Bool };
+
+    ghost view = { λ m. m.marks.items };
+
+    ghost invariant = { λ m. 65535 ≤ vec_capacity m.marks };
+}
+
 impl SectionMarks {
-    /// Creates marks for at most `headers` sections.
+    /// Creates marks for the sections of any object.
     ///
     /// # Errors
     /// Out of memory.
-    pub(crate) fn new(alloc: Global, headers: u16) -> Result<SectionMarks, AllocError> {
-        let marks = vec![in alloc; false; headers as usize]?;
+    pub(crate) fn new(alloc: Global) -> Result<SectionMarks, AllocError> {
+        let marks = Vec::with_capacity(alloc, MOST_SECTIONS)?;
         Ok(SectionMarks { marks })
     }
 
-    /// Removes the marks of the first `count` sections.
+    /// Begins with an object of `count` sections, of which none is marked.
     pub(crate) fn clear(&mut self, count: u16) {
-        for section in 0..count {
-            self.set(u32::from(section), false);
-        }
+        self.marks.truncate(0);
+        self.marks.resize(count as usize, false).unwrap();
     }
 
     /// Sets a mark; an index of no section is ignored.

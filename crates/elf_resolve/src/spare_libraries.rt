@@ -1,18 +1,17 @@
 //! The keys that a shared library defines which is not needed.
-ghost use Rattle.std.specs.Prelude.{◌≡◌};
-
 use crate::asked_libraries::read_library_tables;
-use crate::key_marks::KeyMarks;
 use crate::library::LibraryTables;
 use crate::library_symbols::{LibrarySymbol, library_symbol};
 use crate::link_faults::LinkFault;
+use crate::object::linked_header;
 use crate::room::{LinkRoom, TableRoom};
 use crate::spare_keys::SpareKeys;
 use crate::string_buffer::StringBuffer;
 use crate::table::KeyTable;
-use elf_model::{KeyState, SymbolRole};
+use elf_model::{KeyEntry, KeyState, SymbolRole};
+use elf_record::numbers::ET_DYN;
 use elf_source::{Counted, Source};
-use elf_table::{HeaderStore, SectionView};
+use elf_table::{SectionView, load};
 
 /// Adds a library of a row that is not needed to the lists of the keys that it defines.
 ///
@@ -25,9 +24,15 @@ pub(crate) fn offer_keys<S: Source>(
     spare: &mut SpareKeys,
     row: u32,
 ) -> Result<(), LinkFault> {
-    let mut store = room.headers.store();
-    let tables = read_library_tables(src, &mut store, &mut room.tables, row)?;
-    offer_symbols(&store, tables, &mut room.tables, keys, spare)
+    let head = linked_header(src, ET_DYN)?;
+    let mut store = room.headers.store_for(&head);
+    let loaded = load(src, &mut store, &head)?;
+    let view = SectionView {
+        loaded,
+        store: &store,
+    };
+    let tables = read_library_tables(src, &view, &mut room.tables, row)?;
+    offer_symbols(&view, tables, &mut room.tables, keys, spare)
 }
 
 /// Adds a library that is not needed to the lists of the keys that it defines.
@@ -35,24 +40,20 @@ pub(crate) fn offer_keys<S: Source>(
 /// # Errors
 /// The first fault of a symbol; there is no room.
 fn offer_symbols(
-    store: &HeaderStore,
+    view: &SectionView<'_>,
     tables: LibraryTables,
     room: &mut TableRoom,
     keys: &KeyTable<'_>,
     spare: &mut SpareKeys,
-) -> Result<(), LinkFault>
-    requires { store.now.loaded ≡ tables.loaded.header.e_shnum }
-{
-    let view = SectionView {
-        loaded: tables.loaded,
-        store,
-    };
+) -> Result<(), LinkFault> {
+    let used = room.strings.used();
     let (first, count) = tables.symbol_range();
     for index in first..count {
         let strings = &mut room.strings;
-        if let Some(symbol) = library_symbol(&view, tables, &room.versions, strings, index)? {
+        if let Some(symbol) = library_symbol(view, tables, &room.versions, strings, index)? {
             offer_symbol(&symbol, room, keys, spare, tables.row)?;
         }
+        room.strings.forget_after(used);
     }
     Ok(())
 }
@@ -68,7 +69,7 @@ fn offer_symbol(
     spare: &mut SpareKeys,
     row: u32,
 ) -> Result<(), LinkFault> {
-    let (key, default) = wanted_keys(symbol, &room.strings, keys, &room.marks);
+    let (key, default) = wanted_keys(symbol, &room.strings, keys);
     offer(key, row, symbol.at, spare)?;
     offer(default, row, symbol.at, spare)
 }
@@ -89,26 +90,25 @@ fn wanted_keys(
     symbol: &LibrarySymbol,
     strings: &StringBuffer,
     keys: &KeyTable<'_>,
-    marks: &KeyMarks,
 ) -> (Option<u32>, Option<u32>) {
     if !matches!(symbol.role, SymbolRole::Shared(_)) {
         return (None, None);
     }
     let default = match symbol.default {
-        Some(default) => wanted_key(strings.bytes(default), keys, marks),
+        Some(default) => wanted_key(strings.bytes(default), keys),
         None => None,
     };
-    (wanted_key(strings.bytes(symbol.name), keys, marks), default)
+    (wanted_key(strings.bytes(symbol.name), keys), default)
 }
 
 /// Returns the key of a name, if objects have it and nothing defines it.
-fn wanted_key(name: &[u8], keys: &KeyTable<'_>, marks: &KeyMarks) -> Option<u32> {
+fn wanted_key(name: &[u8], keys: &KeyTable<'_>) -> Option<u32> {
     let Some(key) = keys.find(name) else {
         return None;
     };
-    let state = keys.entry(key).state;
+    let KeyEntry { state, is_own, .. } = keys.entry(key);
     let is_free = matches!(state, KeyState::New | KeyState::Weak | KeyState::Undefined);
-    if is_free && marks.get(key).is_own {
+    if is_free && is_own {
         return Some(key);
     }
     None

@@ -247,7 +247,7 @@ fn with_reference(entry: KeyEntry, symbol: SymbolUse, row: Option<u32>) -> KeyEn
 {
     match symbol.role {
         SymbolRole::Reference => {
-            if symbol.dropped {
+            if symbol.dropped || symbol.of_library {
                 entry
             } else {
                 KeyEntry {
@@ -257,7 +257,7 @@ fn with_reference(entry: KeyEntry, symbol: SymbolUse, row: Option<u32>) -> KeyEn
             }
         }
         SymbolRole::WeakReference => {
-            if symbol.dropped {
+            if symbol.dropped || symbol.of_library {
                 entry
             } else {
                 KeyEntry {
@@ -276,7 +276,7 @@ fn noted(entry: KeyEntry, symbol: SymbolUse, row: Option<u32>) -> KeyEntry
 {
     KeyEntry {
         is_met: true,
-        is_own: entry.is_own || (row.is_some() && !is_shared(symbol.role)),
+        is_own: entry.is_own || (row.is_some() && !symbol.of_library),
         is_gone: entry.is_gone || symbol.dropped,
         ..entry
     }

@@ -1,5 +1,5 @@
 //! The tables of a file, read whole.
-ghost use Rattle.std.specs.Prelude.{◌≤◌, IfSome, length};
+ghost use Rattle.std.specs.Prelude.{◌≤◌, IfSome};
 
 use crate::link_faults::{LinkFault, file_refused, refused};
 use elf_model::LinkCause;
@@ -8,6 +8,7 @@ use elf_source::{Counted, READ_BYTES, Source};
 use elf_table::{fill, find_nul};
 use memchr::memchr;
 use std::alloc::{AllocError, Global};
+use std::marker::Model;
 
 /// A table, or a name, in a buffer.
 #[derive(Clone, Copy)]
@@ -21,31 +22,44 @@ pub(crate) struct HeldText {
 /// An empty text.
 pub(crate) const NO_TEXT: HeldText = HeldText { start: 0, size: 0 };
 
-/// Memory for the tables of one file. It is allocated once.
+/// The tables of one file, one after the other, in memory that is allocated once.
 #[derive(Drop)]
 pub(crate) struct StringBuffer {
     bytes: Vec<u8>,
-    used: usize,
+    most: usize,
+}
+
+impl Model for StringBuffer {
+    ghost use Rattle.std.specs.Prelude.{◌≤◌, length, vec_capacity};
+    ghost use Rattle.elf_resolve.specs.StringBuffers.{TableTexts};
+
+    ghost Value = { TableTexts };
+
+    ghost view = { λ b. record { bytes = b.bytes.items; most = b.most } };
+
+    ghost invariant = { λ b.
+        (length b.bytes.items ≤ b.most) × (b.most ≤ vec_capacity b.bytes) };
 }
 
 impl StringBuffer {
-    /// Creates a buffer of `size` bytes.
+    /// Creates a buffer of at most `size` bytes.
     ///
     /// # Errors
     /// Out of memory.
     pub(crate) fn new(alloc: Global, size: u32) -> Result<StringBuffer, AllocError> {
-        let bytes = vec![in alloc; 0u8; size as usize]?;
-        Ok(StringBuffer { bytes, used: 0 })
+        let most = size as usize;
+        let bytes = Vec::with_capacity(alloc, most)?;
+        Ok(StringBuffer { bytes, most })
     }
 
     /// Returns how many bytes have tables.
     pub(crate) fn used(&self) -> usize {
-        self.used
+        self.bytes.len()
     }
 
     /// Forgets the tables after the first `used` bytes.
     pub(crate) fn forget_after(&mut self, used: usize) {
-        self.used = used.min(self.used);
+        self.bytes.truncate(used);
     }
 
     /// Reads `size` bytes at a file offset, each once.
@@ -59,12 +73,12 @@ impl StringBuffer {
         size: u64,
         place: u64,
     ) -> Result<HeldText, LinkFault> {
-        let start = self.used;
-        let Some(end) = end_within(start, size, self.bytes.len()) else {
+        let start = self.bytes.len();
+        let Some(end) = end_within(start, size, self.most) else {
             return refused(place, LinkCause::TooManyKeys);
         };
-        read_part(src, at, &mut self.bytes, start, end)?;
-        self.used = end;
+        self.bytes.resize(end, 0).unwrap();
+        read_all(src, at, &mut self.bytes[start..end])?;
         Ok(HeldText {
             start,
             size: end - start,
@@ -110,40 +124,26 @@ impl StringBuffer {
         version: HeldText,
         at: u64,
     ) -> Result<HeldText, LinkFault> {
-        let start = self.used;
-        let between = start.saturating_add(name.size);
-        let next = between.saturating_add(1);
-        let size = next.saturating_sub(start).saturating_add(version.size);
-        if !copy_part(&mut self.bytes, name, start)
-            || !put(&mut self.bytes, between, b'@')
-            || !copy_part(&mut self.bytes, version, next)
-        {
+        let start = self.bytes.len();
+        let size = name.size.saturating_add(1).saturating_add(version.size);
+        if size > self.most.saturating_sub(start) {
             return refused(at, LinkCause::TooManyKeys);
         }
+        append_part(&mut self.bytes, name);
+        self.bytes.push(b'@').unwrap();
+        append_part(&mut self.bytes, version);
         Ok(HeldText { start, size })
     }
 }
 
-/// Copies a text to an index; returns `false` if it does not fit.
-fn copy_part(bytes: &mut [u8], text: HeldText, to: usize) -> bool {
-    let length = bytes.len();
-    let HeldText { start, size } = text;
-    if start > length || size > length - start || to > length || size > length - to {
-        return false;
+/// Appends a text that is in the same bytes.
+fn append_part(bytes: &mut Vec<u8>, text: HeldText) {
+    let start = bytes.len();
+    let end = start.saturating_add(text.size);
+    if text.start > start || text.size > start - text.start || bytes.resize(end, 0).is_err() {
+        return;
     }
-    bytes.copy_within(start..start + size, to);
-    true
-}
-
-/// Writes a byte at an index; returns `false` if it does not fit.
-fn put(bytes: &mut [u8], index: usize, byte: u8) -> bool {
-    match bytes.get_mut(index) {
-        Some(place) => {
-            *place = byte;
-            true
-        }
-        None => false,
-    }
+    bytes.copy_within(text.start..text.start + text.size, start);
 }
 
 /// Returns the index after `size` bytes from an index on, if there are so many of `most`.
@@ -189,23 +189,6 @@ pub(crate) fn read_all<S: Source>(
         place = place.saturating_add(count);
     }
     Ok(())
-}
-
-/// Fills the bytes from an index up to another with the bytes at a file offset.
-///
-/// # Errors
-/// Those of [`read_all`].
-fn read_part<S: Source>(
-    src: &mut Counted<S>,
-    at: u64,
-    bytes: &mut [u8],
-    start: usize,
-    end: usize,
-) -> Result<(), LinkFault>
-    requires order { start ≤ end }
-    requires within { end ≤ length bytes.old }
-{
-    read_all(src, at, &mut bytes[start..end])
 }
 
 /// Fills `out`, at most 4,096 bytes, with the bytes at a file offset.

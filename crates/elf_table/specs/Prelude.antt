@@ -9,7 +9,7 @@ pub use Rattle.elf_table.specs.NamesRead.{ComparesName, NameRead, Refuses, Searc
 pub use Rattle.elf_table.specs.Relocations.{AreEntries, AreRelocations, AreSymbols, Links, RefersTo, RefusedBy, Relocates, RelocatesWith}
 pub use Rattle.elf_table.specs.Sections.{answered, byte_rows, checked, names_at, rows, section_names, string_table_at, string_table_of, strings, symbols_at, table_at, table_of}
 pub use Rattle.elf_table.specs.Stops.{stop_of}
-pub use Rattle.elf_table.specs.Store.{AreRowSlices, HoldsSections, HoldsSegments, StoreState, emptied, row, segment_bytes}
+pub use Rattle.elf_table.specs.Store.{AreRowSlices, HoldsSections, HoldsSegments, StoreState, emptied, row, segment_bytes, slots_of}
 unfoldable pub use Rattle.elf_table.specs.Store.{rows_from}
 pub use Rattle.elf_table.specs.Tables.{StringTableRange, StringsInBounds, SymbolTableInBounds, TableInBounds, TableRange, size_of, strings_in}
 pub use Rattle.elf_table.specs.Versions.{AreVersioned, Versioned, sections_in, sections_of}

@@ -1,5 +1,5 @@
 -- The store of headers, and what it holds of a file.
-use Rattle.std.specs.Prelude.{ℕ, zero, suc, ◌≡◌, ◌+◌, ◌*◌, ◌<◌, List, [], ◌∷◌, slice_index_or}
+use Rattle.std.specs.Prelude.{ℕ, zero, suc, ◌≡◌, ◌+◌, ◌*◌, ◌<◌, max, min, List, [], ◌∷◌, slice_index_or}
 use Rattle.elf_model.specs.Prelude.{section_at, segment_at, slice}
 
 -- the number of slots of a store, the number of loaded section headers, and the bytes of each of
@@ -14,6 +14,11 @@ pub record StoreState : Type 0 where
 -- a store with a number of slots and no header
 abbrev pub empty : ℕ → StoreState
 empty slots = record { slots = slots; loaded = 0; rows = []; segments = 0; segment_rows = [] }
+
+-- as many slots as a file has section headers, or program headers if these are more, but at most a
+-- number, and at least one
+abbrev pub slots_of : (most sections segments : ℕ) → ℕ
+slots_of most sections segments = max (min most (max sections segments)) 1
 
 -- a store with as many slots and no header
 abbrev pub emptied : StoreState → StoreState
