@@ -12,3 +12,5 @@ pub mod MemberExtents
 pub mod Ranges
 pub mod Lines
 pub mod StringBuffers
+pub mod Taken
+pub mod Resolved

@@ -1,5 +1,8 @@
 //! The index of an archive: of each name that a member defines, the member.
-ghost use Rattle.std.specs.Prelude.{◌<◌, IfSome};
+ghost use Rattle.std.specs.Prelude.{◌≡◌, ◌<◌, ◌≤◌, IfSome, List, ℕ, Some, drop, length, map};
+ghost use Rattle.elf_model.specs.LinkArchives.{link_members};
+ghost use Rattle.elf_source.specs.Prelude.{KeepsSource};
+ghost use Rattle.elf_resolve.specs.Taken.{ReadsIndex, header_of};
 
 use crate::archives::{ArchiveTables, member_with_header, members_from, read_header_at};
 use crate::link_faults::{LinkFault, full, refused};
@@ -42,7 +45,15 @@ pub(crate) fn read_index<S: Source>(
     first: usize,
     strings: &mut StringBuffer,
     keys: &mut KeyTable<'_>,
-) -> Result<(), LinkFault> {
+) -> Result<(), LinkFault>
+    ensures keeps { KeepsSource src.old.seen src.new.seen }
+    ensures members { tables.new.members ≡ tables.old.members }
+    ensures archives { tables.new.archives ≡ tables.old.archives }
+    ensures reads { (file : List ℕ) → src.old.seen.file ≡ Some file →
+        drop first tables.old.members.items ≡ map header_of (link_members file).members →
+        first ≤ length tables.old.members.items →
+        ReadsIndex file keys.old keys.new tables.old.entries.items tables.new.entries.items result }
+{
     if tables.members.len() <= first {
         return Ok(());
     }

@@ -1,5 +1,7 @@
 //! The archives of a link: their members, and the entries of their indexes.
-ghost use Rattle.std.specs.Prelude.{IfOk};
+ghost use Rattle.std.specs.Prelude.{◌≡◌, IfOk, List, ℕ, Some};
+ghost use Rattle.elf_source.specs.Prelude.{KeepsSource};
+ghost use Rattle.elf_resolve.specs.Taken.{WalksMembers};
 ghost use Rattle.elf_resolve.specs.MemberExtents.{LiesAfterHeader};
 
 use crate::link_faults::{LinkFault, refused};
@@ -66,7 +68,13 @@ impl ArchiveTables {
     pub(crate) fn walk<S: Source>(
         &mut self,
         src: &mut Counted<S>,
-    ) -> Result<Option<FileRange>, LinkFault> {
+    ) -> Result<Option<FileRange>, LinkFault>
+        ensures keeps { KeepsSource src.old.seen src.new.seen }
+        ensures archives { self.new.archives ≡ self.old.archives }
+        ensures entries { self.new.entries ≡ self.old.entries }
+        ensures walks { (file : List ℕ) → src.old.seen.file ≡ Some file →
+            WalksMembers file self.old.members.items self.new.members.items result }
+    {
         read_archive_magic(src)?;
         let mut at = MAGIC_BYTES;
         let mut names = None;

@@ -1,5 +1,9 @@
 //! The members of an archive, as objects of a link.
+ghost use Rattle.std.specs.Prelude.{◌≡◌, List, ℕ, Some};
+ghost use Rattle.elf_model.specs.LinkPasses.{index_name};
+ghost use Rattle.elf_source.specs.Prelude.{KeepsSource};
 ghost use Rattle.elf_resolve.specs.LinkMembers.{unknown_members};
+ghost use Rattle.elf_resolve.specs.Taken.{FindsDefinition};
 
 use crate::archive_index::{INDEX_32, INDEX_64};
 use crate::archives::{OpenedArchive, member_cut, read_header_at};
@@ -179,7 +183,13 @@ fn defines<S: Source>(
     room: &mut LinkRoom,
     entry: IndexEntry,
     keys: &KeyTable<'_>,
-) -> Result<bool, LinkFault> {
+) -> Result<bool, LinkFault>
+    ensures keeps { KeepsSource src.old.seen src.new.seen }
+    ensures headers { room.new.headers ≡ room.old.headers }
+    ensures names { room.new.names ≡ room.old.names }
+    ensures finds { (file : List ℕ) → src.old.seen.file ≡ Some file →
+        FindsDefinition file room.old.headers (index_name keys.now.keys entry) result }
+{
     match find_definition(src, room, entry, keys) {
         Ok(found) => Ok(found),
         Err(fault) if is_of_object(&fault) => Ok(false),

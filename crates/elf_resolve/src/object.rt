@@ -1,5 +1,7 @@
 //! An object of a link: its headers, its symbol table and its string tables.
-ghost use Rattle.std.specs.Prelude.{◌<◌};
+ghost use Rattle.std.specs.Prelude.{◌≡◌, ◌<◌, List, ℕ, Some};
+ghost use Rattle.elf_source.specs.Prelude.{KeepsSource};
+ghost use Rattle.elf_resolve.specs.Taken.{TakesObject};
 
 use crate::link_faults::{LinkFault, refused};
 use crate::object_symbols::take_symbols;
@@ -61,7 +63,13 @@ pub(crate) fn take_object<S: Source>(
     room: &mut LinkRoom,
     keys: &mut KeyTable<'_>,
     row: u32,
-) -> Result<(), LinkFault> {
+) -> Result<(), LinkFault>
+    ensures keeps { KeepsSource src.old.seen src.new.seen }
+    ensures headers { room.new.headers ≡ room.old.headers }
+    ensures names { room.new.names ≡ room.old.names }
+    ensures takes { (file : List ℕ) → src.old.seen.file ≡ Some file →
+        TakesObject file room.old.headers row keys.old keys.new result }
+{
     let head = linked_header(src, ET_REL)?;
     let mut store = room.headers.store_for(&head);
     let loaded = load(src, &mut store, &head)?;
