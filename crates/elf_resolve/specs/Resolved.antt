@@ -6,16 +6,16 @@ use Rattle.elf_resolve.specs.declared.archives.OpenedArchive.{OpenedArchive}
 use Rattle.elf_resolve.specs.declared.resolver.Resolver.{Resolver}
 
 -- the elements of a list from an index to another
-abbrev pub range_in : {A : Type 0} → List A → ℕ × ℕ → List A
-range_in items range = take (range.1 - range.0) (drop range.0 items)
+abbrev pub elements_in : {A : Type 0} → List A → ℕ × ℕ → List A
+elements_in items range = take (range.1 - range.0) (drop range.0 items)
 
 -- an archive, by the entries of all indexes, and whether each member of all archives is taken
 abbrev pub open_archive : List IndexEntry → (taken : List Bool) → OpenedArchive → OpenArchive
 open_archive entries taken archive = record {
   input = archive.input;
   row = archive.row;
-  entries = range_in entries archive.entries;
-  taken = range_in taken archive.members;
+  entries = elements_in entries archive.entries;
+  taken = elements_in taken archive.members;
 }
 
 abbrev pub linking_of : Resolver → Linking

@@ -23,36 +23,36 @@ IsLimit cause.TooManyRows = ⊤
 IsLimit _ = ⊥
 
 -- A FAULT is a limit's, or the refusal that the file has, or one of the system
-abbrev pub IsFaultOf : Option LinkRefusal → LinkFault → Type 0
-IsFaultOf known (Refused refusal) = IsLimit refusal.cause ⊎ (known ≡ Some refusal)
-IsFaultOf known Read = ⊤
-IsFaultOf known Open = ⊤
+abbrev pub IsLinkFault : Option LinkRefusal → LinkFault → Type 0
+IsLinkFault known (Refused refusal) = IsLimit refusal.cause ⊎ (known ≡ Some refusal)
+IsLinkFault known Read = ⊤
+IsLinkFault known Open = ⊤
 
 -- AN OBJECT TAKEN by its bytes, with this many headers allowed, of a row
 abbrev pub TakesObject : List ℕ → (headers row : ℕ) → (old new : KeyList) → Result (Unit {0}) LinkFault → Type 0
 TakesObject file headers row old new (Ok done) = (object : LinkObject) × (object_of file headers ≡ Ok object) × TookObject object old new row
-TakesObject file headers row old new (Err fault) = IsFaultOf (refusal_of (object_of file headers)) fault
+TakesObject file headers row old new (Err fault) = IsLinkFault (refusal_of (object_of file headers)) fault
 
 -- whether an object defines a name; one that is refused does not
 abbrev pub FindsDefinition : List ℕ → (headers : ℕ) → (name : List ℕ) → Result Bool LinkFault → Type 0
 FindsDefinition file headers name (Ok is_defined) = is_defined ≡ object_defines file headers name
-FindsDefinition file headers name (Err fault) = IsFaultOf None fault
+FindsDefinition file headers name (Err fault) = IsLinkFault None fault
 
 -- THE MEMBERS of an archive walked over: the offsets of their headers are appended
 abbrev pub header_of : LinkMember → ℕ
 header_of member = member.header
 
-abbrev pub extent_in : LinkMember → FileRange
-extent_in member = member.extent
+abbrev pub data_of : LinkMember → FileRange
+data_of member = member.extent
 
 pub record WalkedMembers (file : List ℕ) (old new : List ℕ) (names : Option FileRange) : Type 0 where
   pub whole : members_refusal file ≡ None
   pub members : new ≡ old ++ map header_of (link_members file).members
-  pub names_are : names ≡ option_map extent_in (name_table file (link_members file).members)
+  pub names_are : names ≡ option_map data_of (name_table file (link_members file).members)
 
 abbrev pub WalksMembers : List ℕ → (old new : List ℕ) → Result (Option FileRange) LinkFault → Type 0
 WalksMembers file old new (Ok names) = WalkedMembers file old new names
-WalksMembers file old new (Err fault) = IsFaultOf (members_refusal file) fault
+WalksMembers file old new (Err fault) = IsLinkFault (members_refusal file) fault
 
 -- AN INDEX READ: its names are keys, and its entries are appended
 pub record ReadIndex (file : List ℕ) (old new : KeyList) (before after : List IndexEntry) : Type 0 where
@@ -65,4 +65,4 @@ pub record ReadIndex (file : List ℕ) (old new : KeyList) (before after : List 
 
 abbrev pub ReadsIndex : List ℕ → (old new : KeyList) → (before after : List IndexEntry) → Result (Unit {0}) LinkFault → Type 0
 ReadsIndex file old new before after (Ok done) = ReadIndex file old new before after
-ReadsIndex file old new before after (Err fault) = IsFaultOf (refusal_of (archive_index file (link_members file).members)) fault
+ReadsIndex file old new before after (Err fault) = IsLinkFault (refusal_of (archive_index file (link_members file).members)) fault
