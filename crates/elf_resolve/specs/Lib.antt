@@ -14,3 +14,4 @@ pub mod Lines
 pub mod StringBuffers
 pub mod Taken
 pub mod Resolved
+pub mod ObjectTables

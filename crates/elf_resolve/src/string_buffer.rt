@@ -1,5 +1,7 @@
 //! The tables of a file, read whole.
-ghost use Rattle.std.specs.Prelude.{◌≤◌, IfSome};
+ghost use Rattle.std.specs.Prelude.{◌≡◌, ◌≤◌, IfSome, List, ℕ, Some, length, take};
+ghost use Rattle.elf_source.specs.Prelude.{KeepsSource};
+ghost use Rattle.elf_resolve.specs.StringBuffers.{FindsName, IsHeld, JoinsTexts, KeptTexts, ReadsText};
 
 use crate::link_faults::{LinkFault, file_refused, refused};
 use elf_model::LinkCause;
@@ -53,12 +55,16 @@ impl StringBuffer {
     }
 
     /// Returns how many bytes have tables.
-    pub(crate) fn used(&self) -> usize {
+    pub(crate) fn used(&self) -> usize
+        ensures { result ≡ length self.now.bytes }
+    {
         self.bytes.len()
     }
 
     /// Forgets the tables after the first `used` bytes.
-    pub(crate) fn forget_after(&mut self, used: usize) {
+    pub(crate) fn forget_after(&mut self, used: usize)
+        ensures { self.new ≡ record self.old { bytes = take used self.old.bytes } }
+    {
         self.bytes.truncate(used);
     }
 
@@ -72,7 +78,12 @@ impl StringBuffer {
         at: u64,
         size: u64,
         place: u64,
-    ) -> Result<HeldText, LinkFault> {
+    ) -> Result<HeldText, LinkFault>
+        ensures keeps { KeepsSource src.old.seen src.new.seen }
+        ensures stays { KeptTexts self.old self.new }
+        ensures reads { (file : List ℕ) → src.old.seen.file ≡ Some file →
+            ReadsText file at size self.old self.new result }
+    {
         let start = self.bytes.len();
         let Some(end) = end_within(start, size, self.most) else {
             return refused(place, LinkCause::TooManyKeys);
@@ -86,7 +97,9 @@ impl StringBuffer {
     }
 
     /// Returns the bytes of a text; none if it is not in the buffer.
-    pub(crate) fn bytes(&self, text: HeldText) -> &[u8] {
+    pub(crate) fn bytes(&self, text: HeldText) -> &[u8]
+        ensures { (is : List ℕ) → IsHeld self.now.bytes text is → result.now ≡ is }
+    {
         part_of(&self.bytes, text.start, text.size)
     }
 
@@ -96,7 +109,10 @@ impl StringBuffer {
     /// # Errors
     /// Refused at `at`: `NameOutside` if the index is not below the table's size, `NameUnended` if
     /// the table ends before the name.
-    pub(crate) fn name(&self, table: HeldText, index: u64, at: u64) -> Result<HeldText, LinkFault> {
+    pub(crate) fn name(&self, table: HeldText, index: u64, at: u64) -> Result<HeldText, LinkFault>
+        ensures { (strings : List ℕ) → IsHeld self.now.bytes table strings →
+            FindsName self.now.bytes strings index at result }
+    {
         if table.size == 0 && index == 0 {
             return Ok(NO_TEXT);
         }
@@ -123,7 +139,12 @@ impl StringBuffer {
         name: HeldText,
         version: HeldText,
         at: u64,
-    ) -> Result<HeldText, LinkFault> {
+    ) -> Result<HeldText, LinkFault>
+        ensures stays { KeptTexts self.old self.new }
+        ensures joins { (first second : List ℕ) → IsHeld self.old.bytes name first →
+            IsHeld self.old.bytes version second →
+            JoinsTexts self.old self.new first second result }
+    {
         let start = self.bytes.len();
         let size = name.size.saturating_add(1).saturating_add(version.size);
         if size > self.most.saturating_sub(start) {
