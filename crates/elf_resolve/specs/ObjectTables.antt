@@ -3,15 +3,15 @@ use Rattle.std.specs.Prelude.{ℕ, ◌≡◌, List, Option, None, Some}
 use Rattle.elf_model.specs.LinkSymbols.{symbol_table_in}
 use Rattle.elf_model.specs.Records.{e_shstrndx, section_at, sh_info, sh_offset}
 use Rattle.elf_model.specs.Tables.{SYMBOL_SIZE, entry_count, section_bytes, strings_of}
-use Rattle.elf_resolve.specs.StringBuffers.{IsHeld}
+use Rattle.elf_resolve.specs.StringBuffers.{HoldsText}
 use Rattle.elf_resolve.specs.declared.object.ObjectTables.{ObjectTables}
 use Rattle.elf_resolve.specs.declared.object.SymbolRows.{SymbolRows}
 use Rattle.elf_resolve.specs.declared.string_buffer.HeldText.{HeldText}
 
 -- the symbols of the table whose section header is at an offset, and their names
 pub record HoldsSymbols (file bytes : List ℕ) (table_at : ℕ) (symbols : SymbolRows) : Type 0 where
-  pub rows : IsHeld bytes symbols.rows (section_bytes file table_at)
-  pub names : IsHeld bytes symbols.names (strings_of file table_at)
+  pub rows : HoldsText bytes symbols.rows (section_bytes file table_at)
+  pub names : HoldsText bytes symbols.names (strings_of file table_at)
   pub at : symbols.at ≡ sh_offset file table_at
   pub count : symbols.count ≡ entry_count file table_at SYMBOL_SIZE
 
@@ -28,7 +28,7 @@ HoldsObjectSymbols file bytes (Some symbols) = HoldsFirstSymbols file bytes symb
 -- THE NAMES of its sections, if it has some
 pub record HoldsNames (file bytes : List ℕ) (names : HeldText) : Type 0 where
   pub some : e_shstrndx file ≡ 0 → ⊥
-  pub holds : IsHeld bytes names (section_bytes file (section_at file (e_shstrndx file)))
+  pub holds : HoldsText bytes names (section_bytes file (section_at file (e_shstrndx file)))
 
 abbrev pub HoldsSectionNames : (file bytes : List ℕ) → Option HeldText → Type 0
 HoldsSectionNames file bytes None = e_shstrndx file ≡ 0

@@ -14,7 +14,7 @@ pub record TableTexts : Type 0 where
   pub most : ℕ
 
 -- A TEXT is in the bytes of a buffer
-pub record IsHeld (bytes : List ℕ) (text : HeldText) (is : List ℕ) : Type 0 where
+pub record HoldsText (bytes : List ℕ) (text : HeldText) (is : List ℕ) : Type 0 where
   pub within : text.start + text.size ≤ length bytes
   pub bytes_are : slice bytes text.start text.size ≡ is
 
@@ -36,11 +36,11 @@ ReadsText file at size old new (Ok text) = ReadText file at size old new text
 ReadsText file at size old new (Err fault) = at + size ≤ length file → IsLinkFault None fault
 
 -- A NAME in a table that a buffer holds: it is in the buffer too, or refused
-abbrev pub FindsName : (bytes : List ℕ) → (strings : List ℕ) → (index at : ℕ) → Result HeldText LinkFault → Type 0
-FindsName bytes strings index at (Ok text) = (name : List ℕ) × (link_name strings index at ≡ Ok name) × IsHeld bytes text name
-FindsName bytes strings index at (Err (Refused refusal)) = link_name strings index at ≡ Err refusal
-FindsName bytes strings index at (Err Read) = ⊥
-FindsName bytes strings index at (Err Open) = ⊥
+abbrev pub FindsText : (bytes : List ℕ) → (strings : List ℕ) → (index at : ℕ) → Result HeldText LinkFault → Type 0
+FindsText bytes strings index at (Ok text) = (name : List ℕ) × (link_name strings index at ≡ Ok name) × HoldsText bytes text name
+FindsText bytes strings index at (Err (Refused refusal)) = link_name strings index at ≡ Err refusal
+FindsText bytes strings index at (Err Read) = ⊥
+FindsText bytes strings index at (Err Open) = ⊥
 
 -- a name and a version joined by a sign are appended
 pub record JoinedTexts (old new : TableTexts) (name version : List ℕ) (text : HeldText) : Type 0 where

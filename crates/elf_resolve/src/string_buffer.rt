@@ -1,7 +1,7 @@
 //! The tables of a file, read whole.
 ghost use Rattle.std.specs.Prelude.{◌≡◌, ◌≤◌, IfSome, List, ℕ, Some, length, take};
 ghost use Rattle.elf_source.specs.Prelude.{KeepsSource};
-ghost use Rattle.elf_resolve.specs.StringBuffers.{FindsName, IsHeld, JoinsTexts, KeptTexts, ReadsText};
+ghost use Rattle.elf_resolve.specs.StringBuffers.{FindsText, HoldsText, JoinsTexts, KeptTexts, ReadsText};
 
 use crate::link_faults::{LinkFault, file_refused, refused};
 use elf_model::LinkCause;
@@ -98,7 +98,7 @@ impl StringBuffer {
 
     /// Returns the bytes of a text; none if it is not in the buffer.
     pub(crate) fn bytes(&self, text: HeldText) -> &[u8]
-        ensures { (is : List ℕ) → IsHeld self.now.bytes text is → result.now ≡ is }
+        ensures { (is : List ℕ) → HoldsText self.now.bytes text is → result.now ≡ is }
     {
         part_of(&self.bytes, text.start, text.size)
     }
@@ -110,8 +110,8 @@ impl StringBuffer {
     /// Refused at `at`: `NameOutside` if the index is not below the table's size, `NameUnended` if
     /// the table ends before the name.
     pub(crate) fn name(&self, table: HeldText, index: u64, at: u64) -> Result<HeldText, LinkFault>
-        ensures { (strings : List ℕ) → IsHeld self.now.bytes table strings →
-            FindsName self.now.bytes strings index at result }
+        ensures { (strings : List ℕ) → HoldsText self.now.bytes table strings →
+            FindsText self.now.bytes strings index at result }
     {
         if table.size == 0 && index == 0 {
             return Ok(NO_TEXT);
@@ -141,8 +141,8 @@ impl StringBuffer {
         at: u64,
     ) -> Result<HeldText, LinkFault>
         ensures stays { KeptTexts self.old self.new }
-        ensures joins { (first second : List ℕ) → IsHeld self.old.bytes name first →
-            IsHeld self.old.bytes version second →
+        ensures joins { (first second : List ℕ) → HoldsText self.old.bytes name first →
+            HoldsText self.old.bytes version second →
             JoinsTexts self.old self.new first second result }
     {
         let start = self.bytes.len();
