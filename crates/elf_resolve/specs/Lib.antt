@@ -15,3 +15,4 @@ pub mod StringBuffers
 pub mod Taken
 pub mod Resolved
 pub mod ObjectTables
+pub mod SectionMarks
