@@ -16,3 +16,4 @@ pub mod Taken
 pub mod Resolved
 pub mod ObjectTables
 pub mod SectionMarks
+pub mod LinkerNames
