@@ -11,3 +11,4 @@ pub mod LeftLaws
 pub mod KnownLaws
 pub mod GroupLaws
 pub mod StatedLaws
+pub mod LinkerNameLaws

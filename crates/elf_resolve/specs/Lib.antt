@@ -15,3 +15,5 @@ pub mod StringBuffers
 pub mod Taken
 pub mod Resolved
 pub mod ObjectTables
+pub mod SectionMarks
+pub mod LinkerNames
