@@ -1,5 +1,7 @@
 //! Why a link is refused, or its files cannot be read.
-ghost use Rattle.std.specs.Prelude.{◌≡◌, ◌≤◌, length, Err};
+ghost use Rattle.std.specs.Prelude.{◌≡◌, ◌≤◌, length, None, Err};
+ghost use Rattle.elf_resolve.specs.LinkFaults.{fault_of_table};
+ghost use Rattle.elf_resolve.specs.Taken.{IsLinkFault};
 
 use crate::table::KeyFault;
 use elf_format::cause_word;
@@ -19,6 +21,8 @@ pub enum LinkFault {
 }
 
 impl From<Fault> for LinkFault {
+    ghost from_gives = { λ fault link_fault. link_fault ≡ fault_of_table fault };
+
     fn from(fault: Fault) -> LinkFault {
         match fault {
             Fault::Refused(refusal) => LinkFault::Refused(LinkRefusal {
@@ -46,7 +50,9 @@ pub(crate) fn file_refused<T>(at: u64, cause: Cause) -> Result<T, LinkFault>
 }
 
 /// Returns the refusal for lack of room for a name, which is at a file offset.
-pub(crate) fn full(at: u64, fault: KeyFault) -> LinkFault {
+pub(crate) fn full(at: u64, fault: KeyFault) -> LinkFault
+    ensures { IsLinkFault None result }
+{
     let cause = match fault {
         KeyFault::TooManyKeys | KeyFault::TooManyBytes => LinkCause::TooManyKeys,
         KeyFault::TooManyFurther => LinkCause::TooManyRows,
