@@ -12,3 +12,4 @@ pub mod KnownLaws
 pub mod GroupLaws
 pub mod StatedLaws
 pub mod LinkerNameLaws
+pub mod LinkFaultLaws

@@ -17,3 +17,4 @@ pub mod Resolved
 pub mod ObjectTables
 pub mod SectionMarks
 pub mod LinkerNames
+pub mod LinkFaults
