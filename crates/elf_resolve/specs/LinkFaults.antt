@@ -8,9 +8,9 @@ use Rattle.elf_table.specs.declared.fault.Fault.{Fault}
 use Rattle.elf_table.specs.declared.fault.Fault.TheVariants as table
 
 -- a fault of a table of a file
-abbrev pub fault_in_link : Fault → LinkFault
-fault_in_link (table.Refused refusal) = Refused (as_any refusal)
-fault_in_link (table.Source fault at) = Read
+abbrev pub fault_of_table : Fault → LinkFault
+fault_of_table (table.Refused refusal) = Refused (as_any refusal)
+fault_of_table (table.Source fault at) = Read
 
 -- a refusal of a member that begins at an offset is at an offset of the archive
 abbrev pub MovesWithin : (start : ℕ) → Option LinkRefusal → Type 0

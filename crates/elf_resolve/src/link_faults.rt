@@ -2,7 +2,7 @@
 ghost use Rattle.std.specs.Prelude.{◌≡◌, ◌≤◌, length, Err, None, Option};
 ghost use Rattle.elf_model.specs.LinkArchives.{link_cause_word, moved};
 ghost use Rattle.elf_model.specs.declared.link_states.LinkRefusal.{LinkRefusal as LinkRefusal};
-ghost use Rattle.elf_resolve.specs.LinkFaults.{MovesWithin, fault_in_link};
+ghost use Rattle.elf_resolve.specs.LinkFaults.{MovesWithin, fault_of_table};
 ghost use Rattle.elf_resolve.specs.Taken.{IsLinkFault};
 
 use crate::table::KeyFault;
@@ -23,9 +23,9 @@ pub enum LinkFault {
 }
 
 impl From<Fault> for LinkFault {
-    fn from(fault: Fault) -> LinkFault
-        ensures { result ≡ fault_in_link fault }
-    {
+    ghost from_gives = { λ fault link_fault. link_fault ≡ fault_of_table fault };
+
+    fn from(fault: Fault) -> LinkFault {
         match fault {
             Fault::Refused(refusal) => LinkFault::Refused(LinkRefusal {
                 at: refusal.at,
