@@ -13,3 +13,4 @@ pub mod GroupLaws
 pub mod StatedLaws
 pub mod LinkerNameLaws
 pub mod StringBufferLaws
+pub mod LinkFaultLaws

@@ -1,6 +1,8 @@
 //! Why a link is refused, or its files cannot be read.
-ghost use Rattle.std.specs.Prelude.{◌≡◌, ◌≤◌, length, None, Err};
-ghost use Rattle.elf_resolve.specs.LinkFaults.{fault_of_table};
+ghost use Rattle.std.specs.Prelude.{◌≡◌, ◌≤◌, length, Err, None, Option};
+ghost use Rattle.elf_model.specs.LinkArchives.{link_cause_word, moved};
+ghost use Rattle.elf_model.specs.declared.link_states.LinkRefusal.{LinkRefusal as LinkRefusal};
+ghost use Rattle.elf_resolve.specs.LinkFaults.{MovesWithin, fault_of_table};
 ghost use Rattle.elf_resolve.specs.Taken.{IsLinkFault};
 
 use crate::table::KeyFault;
@@ -61,7 +63,10 @@ pub(crate) fn full(at: u64, fault: KeyFault) -> LinkFault
 }
 
 /// Returns a fault of a member whose first byte is at an offset of its archive.
-pub(crate) fn in_member(fault: LinkFault, start: u64) -> LinkFault {
+pub(crate) fn in_member(fault: LinkFault, start: u64) -> LinkFault
+    ensures { (known : Option LinkRefusal) → MovesWithin start known → IsLinkFault known fault →
+        IsLinkFault (moved start known) result }
+{
     match fault {
         LinkFault::Refused(refusal) => LinkFault::Refused(LinkRefusal {
             at: refusal.at.saturating_add(start),
@@ -72,8 +77,10 @@ pub(crate) fn in_member(fault: LinkFault, start: u64) -> LinkFault {
 }
 
 /// Returns the word for a cause in a line.
+#[tactic(auto, unfolding(elf_model::specs::LinkArchives::link_cause_word))]
 pub fn link_cause_word(cause: LinkCause) -> &'static str
-    ensures { length result.now ≤ 18 }
+    ensures word { result.now ≡ link_cause_word cause }
+    ensures short { length result.now ≤ 18 }
 {
     match cause {
         LinkCause::Refused(cause) => cause_word(cause),
