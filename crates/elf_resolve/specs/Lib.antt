@@ -18,3 +18,4 @@ pub mod ObjectTables
 pub mod SectionMarks
 pub mod LinkerNames
 pub mod LinkFaults
+pub mod ObjectSymbols
