@@ -14,3 +14,4 @@ pub mod StatedLaws
 pub mod LinkerNameLaws
 pub mod StringBufferLaws
 pub mod LinkFaultLaws
+pub mod ObjectSymbolLaws
