@@ -15,3 +15,4 @@ pub mod LinkerNameLaws
 pub mod StringBufferLaws
 pub mod LinkFaultLaws
 pub mod ObjectSymbolLaws
+pub mod ObjectLaws

@@ -19,3 +19,4 @@ pub mod SectionMarks
 pub mod LinkerNames
 pub mod LinkFaults
 pub mod ObjectSymbols
+pub mod ObjectParts
