@@ -16,3 +16,4 @@ pub mod StringBufferLaws
 pub mod LinkFaultLaws
 pub mod ObjectSymbolLaws
 pub mod ObjectLaws
+pub mod ObjectNameLaws

@@ -20,3 +20,4 @@ pub mod LinkerNames
 pub mod LinkFaults
 pub mod ObjectSymbols
 pub mod ObjectParts
+pub mod ObjectNames

@@ -213,7 +213,7 @@ pub(crate) fn part_of(bytes: &[u8], start: usize, size: usize) -> &[u8]
 }
 
 /// Returns the bytes from an index on; none past the end.
-fn after(bytes: &[u8], start: usize) -> &[u8]
+pub(crate) fn after(bytes: &[u8], start: usize) -> &[u8]
     ensures { result.now ≡ drop start bytes.now }
 {
     match bytes.split_at_checked(start) {
