@@ -11,3 +11,9 @@ pub mod LeftLaws
 pub mod KnownLaws
 pub mod GroupLaws
 pub mod StatedLaws
+pub mod LinkerNameLaws
+pub mod StringBufferLaws
+pub mod LinkFaultLaws
+pub mod ObjectSymbolLaws
+pub mod ObjectLaws
+pub mod ObjectNameLaws

@@ -15,3 +15,9 @@ pub mod StringBuffers
 pub mod Taken
 pub mod Resolved
 pub mod ObjectTables
+pub mod SectionMarks
+pub mod LinkerNames
+pub mod LinkFaults
+pub mod ObjectSymbols
+pub mod ObjectParts
+pub mod ObjectNames

@@ -60,6 +60,7 @@ pub struct LinkRoom {
     pub(crate) headers: HeaderBuffer,
     pub(crate) tables: TableRoom,
     pub(crate) names: NamesOfMembers,
+    pub ghost some: { 1 ≤ headers },
 }
 
 impl LinkRoom {
