@@ -9,7 +9,7 @@ use Rattle.elf_model.specs.declared.link_states.FurtherDefinition.{FurtherDefini
 use Rattle.elf_model.specs.declared.link_states.KeyEntry.{KeyEntry}
 use Rattle.elf_model.specs.declared.link_states.SymbolUse.{SymbolUse}
 use Rattle.elf_resolve.specs.declared.table.KeyFault.{KeyFault}
-use Rattle.elf_resolve.specs.declared.table.KeyFault.TheVariants.{TooManyKeys, TooManyBytes, TooManyFurther}
+use Rattle.elf_resolve.specs.declared.table.KeyFault.TheVariants.{TooManyKeys, TooManyBytes, TooManyFurther, OutOfMemory}
 
 -- the keys; how many there is room for; for how many bytes of further names; and for how many further
 -- definitions
@@ -39,11 +39,12 @@ pub record Holds (places : List (Bor (List ℕ) × ℕ)) (names : List (List ℕ
   pub further_within : further ≤ most_further
   pub further_fit : most_further ≤ further_room
 
--- why a name can't be entered
+-- why a name can't be entered: room, or memory
 abbrev pub IsFull : KeyList → List ℕ → KeyFault → Type 0
 IsFull table name TooManyKeys = length table.keys.names ≡ table.most
 IsFull table name TooManyBytes = (length table.keys.names < table.most) × (table.room < length name)
 IsFull table name TooManyFurther = ⊥
+IsFull table name OutOfMemory = Unit {0}
 
 -- the bytes that are kept of a name
 abbrev pub fresh_or : Option ℕ → List ℕ → List ℕ

@@ -5,7 +5,7 @@ use Rattle.elf_model.specs.LinkSymbols.{AT, is_default_at, link_name, version_si
 use Rattle.elf_model.specs.declared.link_states.LinkRefusal.{LinkRefusal}
 use Rattle.elf_resolve.specs.Taken.{IsLinkFault}
 use Rattle.elf_resolve.specs.declared.link_faults.LinkFault.{LinkFault}
-use Rattle.elf_resolve.specs.declared.link_faults.LinkFault.TheVariants.{Refused, Read, Open}
+use Rattle.elf_resolve.specs.declared.link_faults.LinkFault.TheVariants.{Refused, Read, Open, Memory}
 use Rattle.elf_resolve.specs.declared.string_buffer.HeldText.{HeldText}
 
 -- the bytes of the tables, one after the other, and how many there is room for
@@ -52,6 +52,7 @@ FindsText bytes strings index at (Ok text) = (name : List ℕ) × (link_name str
 FindsText bytes strings index at (Err (Refused refusal)) = link_name strings index at ≡ Err refusal
 FindsText bytes strings index at (Err Read) = ⊥
 FindsText bytes strings index at (Err Open) = ⊥
+FindsText bytes strings index at (Err Memory) = ⊥
 
 -- a name and a version joined by a sign are appended
 pub record JoinedTexts (old new : TableTexts) (name version : List ℕ) (text : HeldText) : Type 0 where

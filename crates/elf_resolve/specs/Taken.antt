@@ -13,7 +13,7 @@ use Rattle.elf_model.specs.declared.link_states.LinkRefusal.{LinkRefusal}
 use Rattle.elf_resolve.specs.KeyTables.{KeyList}
 use Rattle.elf_resolve.specs.Passing.{TookObject}
 use Rattle.elf_resolve.specs.declared.link_faults.LinkFault.{LinkFault}
-use Rattle.elf_resolve.specs.declared.link_faults.LinkFault.TheVariants.{Refused, Read, Open}
+use Rattle.elf_resolve.specs.declared.link_faults.LinkFault.TheVariants.{Refused, Read, Open, Memory}
 
 -- a limit of the link refuses: the budget, or the room for keys or rows
 abbrev pub IsLimit : LinkCause → Type 0
@@ -27,6 +27,7 @@ abbrev pub IsLinkFault : Option LinkRefusal → LinkFault → Type 0
 IsLinkFault known (Refused refusal) = IsLimit refusal.cause ⊎ (known ≡ Some refusal)
 IsLinkFault known Read = ⊤
 IsLinkFault known Open = ⊤
+IsLinkFault known Memory = ⊤
 
 -- AN OBJECT TAKEN by its bytes, with this many headers allowed, of a row
 abbrev pub TakesObject : List ℕ → (headers row : ℕ) → (old new : KeyList) → Result (Unit {0}) LinkFault → Type 0

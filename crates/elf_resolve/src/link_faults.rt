@@ -20,6 +20,8 @@ pub enum LinkFault {
     Read,
     /// A file that was there cannot be opened.
     Open,
+    /// Out of memory.
+    Memory,
 }
 
 impl From<Fault> for LinkFault {
@@ -58,6 +60,7 @@ pub(crate) fn full(at: u64, fault: KeyFault) -> LinkFault
     let cause = match fault {
         KeyFault::TooManyKeys | KeyFault::TooManyBytes => LinkCause::TooManyKeys,
         KeyFault::TooManyFurther => LinkCause::TooManyRows,
+        KeyFault::OutOfMemory => return LinkFault::Memory,
     };
     LinkFault::Refused(LinkRefusal { at, cause })
 }
@@ -72,7 +75,7 @@ pub(crate) fn in_member(fault: LinkFault, start: u64) -> LinkFault
             at: refusal.at.saturating_add(start),
             cause: refusal.cause,
         }),
-        LinkFault::Read | LinkFault::Open => fault,
+        LinkFault::Read | LinkFault::Open | LinkFault::Memory => fault,
     }
 }
 

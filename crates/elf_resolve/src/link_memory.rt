@@ -9,6 +9,7 @@ use crate::room::LinkCaps;
 use crate::rows::RowTable;
 use crate::spare_keys::SpareKeys;
 use crate::table::KeyTable;
+use bumpalo::Bump;
 use elf_model::LinkRowKind;
 use std::alloc::{AllocError, Global};
 use std::hash::RandomState;
@@ -56,9 +57,10 @@ pub(crate) fn new_link<'a>(
     alloc: Global,
     hasher: RandomState,
     caps: &LinkCaps,
-    bytes: &'a mut [u8],
+    memory: &'a Bump,
 ) -> Result<Link<'a>, AllocError> {
-    let keys = KeyTable::new(alloc, hasher, caps.keys, caps.index, bytes)?;
+    let bytes = caps.key_bytes;
+    let keys = KeyTable::new(alloc, hasher, caps.keys, caps.index, memory, bytes)?;
     let rows = RowTable::new(alloc, caps.rows)?;
     Ok(Link { keys, rows })
 }

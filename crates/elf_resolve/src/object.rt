@@ -117,10 +117,7 @@ fn take_sections<S: Source>(
 ///
 /// # Errors
 /// Those of the header, `FileType` at 16 and `Machine` at 18.
-pub(crate) fn linked_header<S: Source>(
-    src: &mut Counted<S>,
-    wanted: u16,
-) -> Result<Ehdr, LinkFault>
+pub(crate) fn linked_header<S: Source>(src: &mut Counted<S>, wanted: u16) -> Result<Ehdr, LinkFault>
     ensures keeps { KeepsSource src.old.seen src.new.seen }
     ensures reads { (file : List ℕ) → src.old.seen.file ≡ Some file →
         ReadsLinkHeader file wanted result }

@@ -12,6 +12,7 @@ use crate::object::take_object;
 use crate::passes::Link;
 use crate::room::{LinkCaps, LinkRoom};
 use crate::spare_keys::SpareKeys;
+use bumpalo::Bump;
 use elf_model::{LinkCause, LinkRefusal, LinkRow, LinkRowKind, SymbolRole, SymbolUse};
 use elf_source::{Counted, RangeSource, Source};
 use std::alloc::{AllocError, Global};
@@ -79,7 +80,7 @@ pub struct Resolver<'a> {
 }
 
 impl<'a> Resolver<'a> {
-    /// Allocates the memory of a link. The names of keys have their bytes in `bytes`.
+    /// Allocates the memory of a link. The names of keys have their bytes in `memory`.
     ///
     /// # Errors
     /// Out of memory.
@@ -89,9 +90,9 @@ impl<'a> Resolver<'a> {
         caps: &LinkCaps,
         output: OutputKind,
         steps: usize,
-        bytes: &'a mut [u8],
+        memory: &'a Bump,
     ) -> Result<Resolver<'a>, AllocError> {
-        let link = new_link(alloc, hasher, caps, bytes)?;
+        let link = new_link(alloc, hasher, caps, memory)?;
         let KeyLists {
             tables,
             offers,

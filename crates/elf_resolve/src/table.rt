@@ -1,10 +1,11 @@
 //! The table of keys.
-ghost use Rattle.std.specs.Prelude.{◌≡◌, ◌+◌, ◌<◌, ◌≤◌, ◌^◌, false, vec_capacity, IfOk, OnOk, length, [], get_or};
+ghost use Rattle.std.specs.Prelude.{◌≡◌, ◌+◌, ◌<◌, ◌≤◌, ◌^◌, false, vec_capacity, IfOk, MatchResult, OnOk, length, [], get_or};
 ghost use Rattle.elf_model.specs.LinkKeys.{references_after as asked_of, entry_named_as, key_in, no_keys, order_after, with_entry};
 ghost use Rattle.elf_model.specs.LinkObjects.{is_kept as is_kept_at, kept as kept_at};
 ghost use Rattle.elf_resolve.specs.KeyTables.{AddsFurther, Enters, KeptGroup, NotedSection, UsesKey};
 
 use crate::steps::{is_further, used};
+use bumpalo::Bump;
 use elf_model::{FurtherDefinition, KeyEntry, KeyState, SymbolUse};
 use std::alloc::{AllocError, Global};
 use std::collections::HashMap;
@@ -20,6 +21,8 @@ pub enum KeyFault {
     TooManyBytes,
     /// There are as many further definitions as the table has room for.
     TooManyFurther,
+    /// Out of memory.
+    OutOfMemory,
 }
 
 /// Why a link can't be resolved.
@@ -59,7 +62,8 @@ pub struct KeyTable<'a> {
     order: Vec<u32>,
     asked: usize,
     further: Vec<FurtherDefinition>,
-    rest: &'a mut [u8],
+    memory: &'a Bump,
+    room: usize,
     most: usize,
     most_further: usize,
 }
@@ -80,7 +84,7 @@ impl<'a> Model for KeyTable<'a> {
         further = t.further.items;
       };
       most = t.most;
-      room = length t.rest.now;
+      room = t.room;
       most_further = t.most_further;
     } };
 
@@ -91,8 +95,8 @@ impl<'a> Model for KeyTable<'a> {
 }
 
 impl<'a> KeyTable<'a> {
-    /// Creates a table without keys, with room for `most` keys, whose names have their bytes in
-    /// `bytes`, and for `most_further` further definitions.
+    /// Creates a table without keys, with room for `most` keys, whose names have at most `bytes`
+    /// bytes in `memory`, and for `most_further` further definitions.
     ///
     /// # Errors
     /// Returns `AllocError` if out of memory.
@@ -101,12 +105,13 @@ impl<'a> KeyTable<'a> {
         hasher: RandomState,
         most: u32,
         most_further: u32,
-        bytes: &'a mut [u8],
+        memory: &'a Bump,
+        bytes: u32,
     ) -> Result<KeyTable<'a>, AllocError>
         ensures { IfOk result (λ table. table ≡ record {
           keys = no_keys;
           most = most;
-          room = length bytes.old;
+          room = bytes;
           most_further = most_further;
         }) }
     {
@@ -119,7 +124,8 @@ impl<'a> KeyTable<'a> {
             order: Vec::with_capacity(alloc, most)?,
             asked: 0,
             further: Vec::with_capacity(alloc, most_further)?,
-            rest: bytes,
+            memory,
+            room: bytes as usize,
             most,
             most_further,
         })
@@ -135,7 +141,7 @@ impl<'a> KeyTable<'a> {
     /// Returns the index of a name, which is entered if it is new.
     ///
     /// # Errors
-    /// Returns a `KeyFault` if it is new and there is no room: nothing changes.
+    /// Returns a `KeyFault` if it is new and there is no room, or no memory: nothing changes.
     pub fn enter(&mut self, name: &[u8]) -> Result<u32, KeyFault>
         ensures { Enters self.old self.new name.now result }
     {
@@ -145,11 +151,12 @@ impl<'a> KeyTable<'a> {
         if self.names.len() >= self.most {
             return Err(KeyFault::TooManyKeys);
         }
-        if name.len() > self.rest.len() {
+        if name.len() > self.room {
             return Err(KeyFault::TooManyBytes);
         }
         let index = self.names.len() as u32;
-        let kept = keep(&mut self.rest, name);
+        let kept = keep(self.memory, name)?;
+        self.room -= name.len();
         let inserted: Result<_, _> = self.places.insert(kept, index);
         inserted.unwrap();
         self.names.push(kept).unwrap();
@@ -310,17 +317,18 @@ fn kept(is_link_once: bool, entry: KeyEntry) -> KeyEntry
     }
 }
 
-/// Keeps a name at the start of the bytes that are left.
-fn keep<'a>(rest: &mut &'a mut [u8], name: &[u8]) -> &'a [u8]
-    requires { length name.now ≤ length rest.old.now }
-    ensures kept { result.now ≡ name.now }
-    ensures left { length rest.new.now + length name.now ≡ length rest.old.now }
+/// Copies a name into memory.
+///
+/// # Errors
+/// `OutOfMemory`.
+fn keep<'a>(memory: &'a Bump, name: &[u8]) -> Result<&'a [u8], KeyFault>
+    ensures { MatchResult result (λ kept. kept.now ≡ name.now)
+        (λ fault. fault ≡ KeyFault.OutOfMemory) }
 {
-    let Some(kept) = rest.split_off_mut(..name.len()) else {
-        return &[];
-    };
-    kept.copy_from_slice(name);
-    kept
+    match memory.try_alloc_slice_copy(name) {
+        Ok(kept) => Ok(kept),
+        Err(_) => Err(KeyFault::OutOfMemory),
+    }
 }
 
 /// Adds a further definition, if it is one.

@@ -2,6 +2,7 @@
 
 use crate::link_inputs::FoundInputs;
 use crate::linker_words::{LinkerWords, WordFault, read_linker_words};
+use bumpalo::Bump;
 use elf_cli::{
     CANNOT_OPEN, CommandArgs, ERROR_LINE_BYTES, ExitLine, OUT_OF_MEMORY, OUTPUT_BYTES, READ_FAULT,
     WRITE_FAULT, write_rest,
@@ -151,19 +152,14 @@ fn resolve_plan<F: InputFiles, W: Write + Drop>(
 ) -> Result<u8, LinkFailure> {
     let caps = caps_of(asked);
     let steps = plan.steps.len();
-    let Ok(mut bytes) = key_memory(alloc, &caps) else {
+    let Ok(memory) = Bump::try_with_capacity(alloc, caps.key_bytes as usize) else {
         return Err(LinkFailure::Memory);
     };
-    let Ok(mut link) = Resolver::new(alloc, hasher, &caps, words.output, steps, &mut bytes) else {
+    let Ok(mut link) = Resolver::new(alloc, hasher, &caps, words.output, steps, &memory) else {
         return Err(LinkFailure::Memory);
     };
     let ended = resolve_into(&mut link, files, words, plan);
     show_resolved(&link, &*files, ended, lines_of(asked), output)
-}
-
-/// Allocates the memory of the names of symbols.
-fn key_memory(alloc: Global, caps: &LinkCaps) -> Result<Vec<u8>, std::alloc::AllocError> {
-    vec![in alloc; 0u8; caps.key_bytes as usize]
 }
 
 /// Returns how the lines are written.
@@ -201,6 +197,7 @@ fn show_resolved<F: InputFiles, W: Write + Drop>(
     match ended {
         Ok(()) => {}
         Err(LinkFault::Open) => return Err(LinkFailure::Open),
+        Err(LinkFault::Memory) => return Err(LinkFailure::Memory),
         Err(_) => return Err(LinkFailure::Read),
     }
     let mut out = Out::new(WriteSink::new(output));

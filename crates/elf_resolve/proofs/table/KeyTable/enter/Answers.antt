@@ -16,10 +16,10 @@ absent : (c : goal.After-unwrap-3) → key_in c.args.self.now.keys.names c.args.
 absent c = search rules
 
 -- the names then are those before and the one that was kept
-names_then : (c : goal.After-unwrap-3) → map (λ n. n.now) c.push.new.self.items ≡ map (λ n. n.now) c.self.inside.names.items ++ c.keep-kept.result.now ∷ []
+names_then : (c : goal.After-unwrap-3) → map (λ n. n.now) c.push.new.self.items ≡ map (λ n. n.now) c.self.inside.names.items ++ c.in_ok-kept.kept.now ∷ []
 names_then c =
-    let items : c.push.new.self.items ≡ c.self.inside.names.items ++ c.keep-kept.result ∷ [] = search rules in
-    ap (λ l. map (λ n. n.now) l) items ∙ map-append (λ n. n.now) c.self.inside.names.items (c.keep-kept.result ∷ [])
+    let items : c.push.new.self.items ≡ c.self.inside.names.items ++ c.in_ok-kept.kept ∷ [] = search rules in
+    ap (λ l. map (λ n. n.now) l) items ∙ map-append (λ n. n.now) c.self.inside.names.items (c.in_ok-kept.kept ∷ [])
 
 -- the index is the next one
 next_is : (c : goal.After-unwrap-3) → c.len-index.result ≡ length (map (λ n. n.now) c.self.inside.names.items)
@@ -32,16 +32,16 @@ invariant_of-self c =
     let held = c.self.invariant in
     let names = c.self.inside.names.items in
     let entries = c.self.inside.entries.items in
-    let items : c.push.new.self.items ≡ names ++ c.keep-kept.result ∷ [] = search rules in
+    let items : c.push.new.self.items ≡ names ++ c.in_ok-kept.kept ∷ [] = search rules in
     let states : c.push-2.new.self.items ≡ entries ++ new_key ∷ [] = search rules in
-    let more = ap length items ∙ length-append names (c.keep-kept.result ∷ []) in
+    let more = ap length items ∙ length-append names (c.in_ok-kept.kept ∷ []) in
     let more_states = ap length states ∙ length-append entries (new_key ∷ []) in
-    let missing : key_in (map (λ n. n.now) names) c.keep-kept.result.now ≡ None =
-    rw (c.keep-kept.ensures.kept) (subst (λ (t : KeyList). key_in t.keys.names c.args.name.now ≡ None) (sym c.self.view_is) (absent c)) in
+    let missing : key_in (map (λ n. n.now) names) c.in_ok-kept.kept.now ≡ None =
+    rw (c.in_ok-kept.ensures) (subst (λ (t : KeyList). key_in t.keys.names c.args.name.now ≡ None) (sym c.self.view_is) (absent c)) in
     let updates = rw c.unwrap.ensures at c.insert-inserted.ensures.updates in
     record {
       finds = subst (λ ns. FindsKeys c.insert-inserted.new.self.entries ns) (sym (names_then c))
-          (finds_more _ _ _ _ c.len-index.result held.finds missing (next_is c) (λ q. updates.0 (record c.keep-kept.result { now = q })));
+          (finds_more _ _ _ _ c.len-index.result held.finds missing (next_is c) (λ q. updates.0 (record c.in_ok-kept.kept { now = q })));
       paired = omega (arith, more, more_states, held.paired);
       within = omega (arith, more);
       names_fit = omega (arith);
@@ -63,7 +63,7 @@ pub returns : goal.returns
 returns c =
     let was = c.self.view_is in
     let states : c.push-2.new.self.items ≡ c.self.inside.entries.items ++ new_key ∷ [] = search rules in
-    let names = names_then c ∙ ap (λ n. map (λ n. n.now) c.self.inside.names.items ++ n ∷ []) c.keep-kept.ensures.kept in
+    let names = names_then c ∙ ap (λ n. map (λ n. n.now) c.self.inside.names.items ++ n ∷ []) c.in_ok-kept.ensures in
     new_name _ _ _ _ (absent c)
     (ap (λ ns. keys_with (record { names = []; entries = []; order = c.self.inside.order.items; asked = c.self.inside.asked; further = c.self.inside.further.items }) ns c.push-2.new.self.items) names
     ∙ ap (λ es. keys_with (record { names = []; entries = []; order = c.self.inside.order.items; asked = c.self.inside.asked; further = c.self.inside.further.items }) (map (λ n. n.now) c.self.inside.names.items ++ c.args.name.now ∷ []) es) states
@@ -71,4 +71,4 @@ returns c =
     (next_is c ∙ ap (λ (t : KeyList). length t.keys.names) was)
     (ap (λ (t : KeyList). t.most) was)
     (ap (λ (t : KeyList). t.most_further) was)
-    (c.keep-kept.ensures.left ∙ ap (λ (t : KeyList). t.room) was)
+    (omega arith ∙ ap (λ (t : KeyList). t.room) was)
