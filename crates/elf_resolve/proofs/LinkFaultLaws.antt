@@ -7,7 +7,7 @@ use Rattle.elf_model.specs.declared.link_states.LinkRefusal.{LinkRefusal}
 use Rattle.elf_resolve.specs.LinkFaults.{MovesWithin}
 use Rattle.elf_resolve.specs.Taken.{IsLimit, IsLinkFault}
 use Rattle.elf_resolve.specs.declared.link_faults.LinkFault.{LinkFault}
-use Rattle.elf_resolve.specs.declared.link_faults.LinkFault.TheVariants.{Refused, Read, Open}
+use Rattle.elf_resolve.specs.declared.link_faults.LinkFault.TheVariants.{Refused, Read, Open, Memory}
 
 -- A FAULT OF A PART is one of the whole, if the part's refusal is that of the whole
 pub fault_of_part : (part whole : Option LinkRefusal) (fault : LinkFault) → ((refusal : LinkRefusal) → part ≡ Some refusal → whole ≡ Some refusal)
@@ -16,6 +16,7 @@ fault_of_part part whole (Refused refusal) same (inl limit) = inl limit
 fault_of_part part whole (Refused refusal) same (inr is) = inr (same refusal is)
 fault_of_part part whole Read same is = tt
 fault_of_part part whole Open same is = tt
+fault_of_part part whole Memory same is = tt
 
 -- one of a limit or the system alone is one whatever is known
 pub fault_of_any : (known : Option LinkRefusal) (fault : LinkFault) → IsLinkFault None fault → IsLinkFault known fault

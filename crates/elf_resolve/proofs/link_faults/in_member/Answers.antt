@@ -7,4 +7,4 @@ returns-in-Refused c = λ known within is.
     fault_moved known c.args.start c.saturating_add.result c.in-Refused.refusal within (λ h. omega arith) (rw c.in-Refused.is at is)
 
 pub returns-in-Read : goal.returns-in-Read
-returns-in-Read c = λ known within is. elim c.in-Read.is [ inl e ↦ rw e tt | inr e ↦ rw e tt ]
+returns-in-Read c = λ known within is. elim c.in-Read.is [ inl e ↦ rw e tt | inr f ↦ elim f [ inl e ↦ rw e tt | inr e ↦ rw e tt ] ]
