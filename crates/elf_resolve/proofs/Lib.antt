@@ -17,3 +17,4 @@ pub mod LinkFaultLaws
 pub mod ObjectSymbolLaws
 pub mod ObjectLaws
 pub mod ObjectNameLaws
+pub mod ObjectRefusals
