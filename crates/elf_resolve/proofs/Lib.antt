@@ -18,3 +18,4 @@ pub mod ObjectSymbolLaws
 pub mod ObjectLaws
 pub mod ObjectNameLaws
 pub mod ObjectRefusals
+pub mod ObjectTaken

@@ -47,7 +47,7 @@ link_name-by : (strings : List ℕ) (index at : ℕ) → link_name strings index
 unfolding link_name
 link_name-by strings index at = by_shown (shown strings index (length strings))
   where
-    by_shown : (s : Result DisplayedName Cause) → elim s [ | Ok (Whole name) ↦ Ok name | Ok (Cut front) ↦ Ok front | Err cause ↦ refused_at at (Refused cause) ] ≡ called_by s at
+    by_shown : (s : Result DisplayedName Cause) → elim s [ Ok (Whole name) ↦ Ok name | Ok (Cut front) ↦ Ok front | Err cause ↦ refused_at at (Refused cause) ] ≡ called_by s at
     by_shown (Ok (Whole name)) = refl
     by_shown (Ok (Cut front)) = refl
     by_shown (Err cause) = refl
@@ -89,7 +89,7 @@ abbrev first_or : Option Bool → (rest : Bool) → Bool
 first_or None rest = rest
 first_or (Some found) rest = found
 
-first_by : (named is rest : Bool) → elim named [ | true ↦ is | false ↦ rest ] ≡ first_or (if named then Some is else None) rest
+first_by : (named is rest : Bool) → elim named [ true ↦ is | false ↦ rest ] ≡ first_or (if named then Some is else None) rest
 first_by true is rest = refl
 first_by false is rest = refl
 

@@ -35,7 +35,7 @@ unfolding object_refusal
 by_parts file headers = cases (first_refusal (header_checks file)) (kind_refusal file) (rest_of file headers)
   where
     cases : (h : Option Refusal) (k : Option LinkRefusal) (p : Option Refusal)
-        → elim h [ | Some refusal ↦ Some (as_any refusal) | None ↦ elim k [ | Some refusal ↦ Some refusal | None ↦ elim p [ | Some refusal ↦ Some (as_any refusal) | None ↦ None ] ] ] ≡ kind_or h (kind_then k (as_any_refusal p))
+        → elim h [ Some refusal ↦ Some (as_any refusal) | None ↦ elim k [ Some refusal ↦ Some refusal | None ↦ elim p [ Some refusal ↦ Some (as_any refusal) | None ↦ None ] ] ] ≡ kind_or h (kind_then k (as_any_refusal p))
     cases (Some refusal) k p = refl
     cases None (Some refusal) p = refl
     cases None None (Some refusal) = refl
@@ -92,7 +92,7 @@ load_fault file headers store (table.Refused refusal) some header slots loads = 
         inr (after_header file headers header ∙ ap as_any_refusal (first_refusal-some (load_checks file headers) (table_checks_in file (symbol_table_in file)) refusal load))
 load_fault file headers store (table.Source other at) some header slots loads = tt
 
-after_load : (file : List ℕ) (headers slots : ℕ) → 1 ≤ headers → link_header_refusal file ET_REL ≡ None → slots ≡ slots_of headers (e_shnum file) (e_phnum file) → first_refusal (load_checks file slots) ≡ None
+pub after_load : (file : List ℕ) (headers slots : ℕ) → 1 ≤ headers → link_header_refusal file ET_REL ≡ None → slots ≡ slots_of headers (e_shnum file) (e_phnum file) → first_refusal (load_checks file slots) ≡ None
     → object_refusal file headers ≡ as_any_refusal (first_refusal (table_checks_in file (symbol_table_in file)))
 after_load file headers slots some header is passes =
     after_header file headers header

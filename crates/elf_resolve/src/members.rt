@@ -283,7 +283,7 @@ fn is_first_definition(
     ensures { (file : List ℕ) (table_at : ℕ) →
         HoldsSymbols file strings.now.bytes table_at symbols →
         result ≡ defines_from file table_at symbols.first (symbols.count - symbols.first)
-            (index_name keys.now.keys entry) }
+        (index_name keys.now.keys entry) }
 {
     for index in symbols.first..symbols.count {
         if let Some(found) = named_definition(symbols, index, strings, entry, keys) {
@@ -305,7 +305,7 @@ fn named_definition(
     ensures { (file : List ℕ) (table_at : ℕ) →
         HoldsSymbols file strings.now.bytes table_at symbols → index < symbols.count →
         result ≡ definition_at file table_at (entry_at file table_at SYMBOL_SIZE index)
-            (index_name keys.now.keys entry) }
+        (index_name keys.now.keys entry) }
 {
     let symbol = global_in(strings.bytes(symbols.rows), index)?;
     if !is_named(&symbol, symbols.names, strings, entry, keys) {

@@ -6,6 +6,7 @@ ghost use Rattle.elf_record.specs.Ehdr.{IsEhdr};
 ghost use Rattle.elf_record.specs.Sym.{IsSym};
 ghost use Rattle.elf_source.specs.Prelude.{KeepsSource};
 ghost use Rattle.elf_resolve.specs.ObjectParts.{ChecksKind, ReadsFound, ReadsLinkHeader, ReadsSectionNames, ReadsSymbols, ReadsTables};
+ghost use Rattle.elf_resolve.specs.Objects.{TakesLoaded};
 ghost use Rattle.elf_resolve.specs.StringBuffers.{KeptTexts, ReadsText};
 ghost use Rattle.elf_resolve.specs.Taken.{TakesObject};
 ghost use Rattle.elf_table.specs.Load.{HoldsSectionHeaders};
@@ -99,7 +100,12 @@ fn take_sections<S: Source>(
     room: &mut TableRoom,
     keys: &mut KeyTable<'_>,
     row: u32,
-) -> Result<(), LinkFault> {
+) -> Result<(), LinkFault>
+    ensures keeps { KeepsSource src.old.seen src.new.seen }
+    ensures takes { (file : List ℕ) → src.old.seen.file ≡ Some file →
+        HoldsSectionHeaders file view.now.loaded view.now.store.now →
+        TakesLoaded file row keys.old keys.new result }
+{
     let tables = read_tables(src, view, &mut room.strings)?;
     room.sections.clear(view.sections());
     drop_groups(
@@ -119,10 +125,7 @@ fn take_sections<S: Source>(
 ///
 /// # Errors
 /// Those of the header, `FileType` at 16 and `Machine` at 18.
-pub(crate) fn linked_header<S: Source>(
-    src: &mut Counted<S>,
-    wanted: u16,
-) -> Result<Ehdr, LinkFault>
+pub(crate) fn linked_header<S: Source>(src: &mut Counted<S>, wanted: u16) -> Result<Ehdr, LinkFault>
     ensures keeps { KeepsSource src.old.seen src.new.seen }
     ensures reads { (file : List ℕ) → src.old.seen.file ≡ Some file →
         ReadsLinkHeader file wanted result }

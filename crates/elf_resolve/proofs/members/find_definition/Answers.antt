@@ -27,7 +27,7 @@ returns-in_err-loaded-clause-finds g c = λ file known.
     let p = err_from_is_err_and c.from_residual-in_err-loaded.result c.from_residual-in_err-loaded.ensures.1 in
     rw (p.1, p.2)
     (load_fault file headers c.load.new.store c.in_err-loaded.field-0.0 c.args.room.now.some read.0 here
-     (c.in_err-loaded.ensures.held file (c.linked_header.ensures.keeps.same_file ∙ known) read.1))
+    (c.in_err-loaded.ensures.held file (c.linked_header.ensures.keeps.same_file ∙ known) read.1))
 
 pub returns-in_err-tables-clause-finds : goal.returns-in_err-tables-clause-finds
 returns-in_err-tables-clause-finds g c = λ file known.
@@ -40,7 +40,7 @@ returns-in_err-tables-clause-finds g c = λ file known.
     let p = err_from_is_err_and c.from_residual-in_err-tables.result c.from_residual-in_err-tables.ensures.1 in
     rw (p.1, p.2)
     (tables_fault file headers c.load.new.store.slots c.in_err-tables.field-0.0 c.args.room.now.some read.0 here held.passes
-     (c.in_err-tables.ensures.reads file (c.load.ensures.reads.keeps.same_file ∙ file_then) held))
+    (c.in_err-tables.ensures.reads file (c.load.ensures.reads.keeps.same_file ∙ file_then) held))
 
 pub returns-clause-finds : goal.returns-clause-finds
 returns-clause-finds g c = λ file known.

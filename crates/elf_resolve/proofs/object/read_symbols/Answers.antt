@@ -21,7 +21,7 @@ returns-in_err-rows-clause-reads g c = λ file known held.
     let p = err_from_is_err_and c.from_residual-in_err-rows.result c.from_residual-in_err-rows.ensures.1 in
     rw (p.1, p.2)
     (unread file found.at (found.count * found.entry) found.count (as_any_refusal (first_refusal (symbol_table_checks file (section_at file c.args.section)))) c.in_err-rows.field-0.0
-     (λ some. omega (arith, c.in_ok-table.ensures.within.1 some, held.size)) (c.in_err-rows.ensures.reads file known) c.in_err-rows.ensures.empty)
+    (λ some. omega (arith, c.in_ok-table.ensures.within.1 some, held.size)) (c.in_err-rows.ensures.reads file known) c.in_err-rows.ensures.empty)
 
 pub returns-clause-reads : goal.returns-clause-reads
 returns-clause-reads g c = λ file known held.
