@@ -17,3 +17,5 @@ pub mod LinkFaultLaws
 pub mod ObjectSymbolLaws
 pub mod ObjectLaws
 pub mod ObjectNameLaws
+pub mod ObjectRefusals
+pub mod ObjectTaken

@@ -21,3 +21,5 @@ pub mod LinkFaults
 pub mod ObjectSymbols
 pub mod ObjectParts
 pub mod ObjectNames
+pub mod SectionGroups
+pub mod Objects

@@ -17,7 +17,7 @@ use crate::link_faults::{LinkFault, in_member};
 use crate::object::{ObjectTables, SymbolRows, linked_header, read_tables, take_object};
 use crate::object_symbols::{global_in, is_data_definition};
 use crate::passes::ArchiveObjects;
-use crate::room::LinkRoom;
+use crate::room::{LinkRoom, reach_slots, slots_for};
 use crate::string_buffer::{HeldText, StringBuffer, after};
 use crate::table::{KeyTable, LinkStop};
 use elf_archive::{FileRange, MEMBER_HEADER_BYTES};
@@ -25,7 +25,7 @@ use elf_model::{IndexEntry, LinkCause};
 use elf_record::numbers::ET_REL;
 use elf_record::{Cause, Sym};
 use elf_source::{Counted, RangeSource, Source};
-use elf_table::{SectionView, load};
+use elf_table::{HeaderStore, SectionView, load};
 
 /// The name field of the table of names.
 const NAMES: &[u8; 16] = b"//              ";
@@ -243,7 +243,9 @@ fn find_definition<S: Source>(
         FindsInObject file room.old.headers (index_name keys.now.keys entry) result }
 {
     let head = linked_header(src, ET_REL)?;
-    let mut store = room.headers.store_for(&head);
+    let slots = slots_for(room.headers, &head);
+    reach_slots(&mut room.header_bytes, slots)?;
+    let mut store = HeaderStore::over(&mut room.header_bytes, slots);
     let loaded = load(src, &mut store, &head)?;
     let view = SectionView {
         loaded,

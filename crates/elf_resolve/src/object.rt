@@ -6,13 +6,14 @@ ghost use Rattle.elf_record.specs.Ehdr.{IsEhdr};
 ghost use Rattle.elf_record.specs.Sym.{IsSym};
 ghost use Rattle.elf_source.specs.Prelude.{KeepsSource};
 ghost use Rattle.elf_resolve.specs.ObjectParts.{ChecksKind, ReadsFound, ReadsLinkHeader, ReadsSectionNames, ReadsSymbols, ReadsTables};
+ghost use Rattle.elf_resolve.specs.Objects.{TakesLoaded};
 ghost use Rattle.elf_resolve.specs.StringBuffers.{KeptTexts, ReadsText};
 ghost use Rattle.elf_resolve.specs.Taken.{TakesObject};
 ghost use Rattle.elf_table.specs.Load.{HoldsSectionHeaders};
 
 use crate::link_faults::{LinkFault, refused};
 use crate::object_symbols::take_symbols;
-use crate::room::{LinkRoom, TableRoom};
+use crate::room::{LinkRoom, TableRoom, reach_slots, slots_for};
 use crate::section_groups::{drop_groups, note_sections};
 use crate::string_buffer::{HeldText, StringBuffer, part_of};
 use crate::table::KeyTable;
@@ -20,7 +21,7 @@ use elf_model::LinkCause;
 use elf_record::numbers::{EM_X86_64, ET_REL, SHT_SYMTAB};
 use elf_record::{Ehdr, Sym};
 use elf_source::{Counted, Source};
-use elf_table::{Names, SectionView, Table, header, load};
+use elf_table::{HeaderStore, Names, SectionView, Table, header, load};
 
 /// The offset of the type in a file header, in bytes (gABI 4, ELF Header).
 const TYPE_AT: u64 = 16;
@@ -78,7 +79,9 @@ pub(crate) fn take_object<S: Source>(
         TakesObject file room.old.headers row keys.old keys.new result }
 {
     let head = linked_header(src, ET_REL)?;
-    let mut store = room.headers.store_for(&head);
+    let slots = slots_for(room.headers, &head);
+    reach_slots(&mut room.header_bytes, slots)?;
+    let mut store = HeaderStore::over(&mut room.header_bytes, slots);
     let loaded = load(src, &mut store, &head)?;
     let view = SectionView {
         loaded,
@@ -97,7 +100,12 @@ fn take_sections<S: Source>(
     room: &mut TableRoom,
     keys: &mut KeyTable<'_>,
     row: u32,
-) -> Result<(), LinkFault> {
+) -> Result<(), LinkFault>
+    ensures keeps { KeepsSource src.old.seen src.new.seen }
+    ensures takes { (file : List ℕ) → src.old.seen.file ≡ Some file →
+        HoldsSectionHeaders file view.now.loaded view.now.store.now →
+        TakesLoaded file row keys.old keys.new result }
+{
     let tables = read_tables(src, view, &mut room.strings)?;
     room.sections.clear(view.sections());
     drop_groups(
