@@ -21,3 +21,4 @@ pub mod LinkFaults
 pub mod ObjectSymbols
 pub mod ObjectParts
 pub mod ObjectNames
+pub mod SectionGroups
