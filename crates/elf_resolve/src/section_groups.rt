@@ -1,8 +1,7 @@
 //! The section groups and the link-once sections of an object.
-ghost use Rattle.std.specs.Prelude.{◌≡◌, ◌≢◌, ◌<◌, ◌+◌, ◌*◌, ◌^◌, ◌++◌, ℕ, List, [], Ok, Some, length};
-ghost use Rattle.std.specs.List.{list_all};
+ghost use Rattle.std.specs.Prelude.{◌≡◌, ◌≢◌, ◌<◌, ◌++◌, ℕ, List, [], Some};
 ghost use Rattle.elf_model.specs.Checks.{whole_checks_of};
-ghost use Rattle.elf_model.specs.LinkSymbols.{is_identifier, is_identifier_byte, is_link_once};
+ghost use Rattle.elf_model.specs.LinkSymbols.{is_link_once};
 ghost use Rattle.elf_model.specs.Records.{e_shnum, section_at, sh_type};
 ghost use Rattle.elf_model.specs.Tables.{linked_at};
 ghost use Rattle.elf_record.specs.Shdr.{IsShdr};
@@ -10,14 +9,17 @@ ghost use Rattle.elf_source.specs.Prelude.{KeepsSource};
 ghost use Rattle.elf_table.specs.Load.{HoldsSectionHeaders};
 ghost use Rattle.elf_table.specs.Views.{ChecksDecide};
 ghost use Rattle.elf_resolve.specs.ObjectTables.{HoldsSymbols, HoldsTables};
-ghost use Rattle.elf_resolve.specs.SectionGroups.{DropsGroups, FindsGroup, FindsSectionName, FoundGroup, HoldsDropped, MakesGroup, NotesName, NotesSections, ReadsLinked, SignsGroup, TakesSection, group_word, is_one_kept, sections_of_words};
+ghost use Rattle.elf_resolve.specs.SectionGroups.{DropsGroups, FindsGroup, FoundGroup, HoldsDropped};
+ghost use Rattle.elf_resolve.specs.SectionGroups.{MakesGroup, ReadsLinked, SignsGroup, TakesSection};
+ghost use Rattle.elf_resolve.specs.SectionGroups.{group_word, is_one_kept, sections_of_words};
 ghost use Rattle.elf_resolve.specs.SectionMarks.{MarksDropped};
 ghost use Rattle.elf_resolve.specs.StringBuffers.{KeptTexts};
 
 use crate::link_faults::{LinkFault, file_refused, full};
 use crate::object::{ObjectTables, SymbolRows, read_names, read_rows, symbol_in};
 use crate::section_marks::SectionMarks;
-use crate::string_buffer::{HeldText, NO_TEXT, StringBuffer, part_of};
+use crate::section_names::section_name;
+use crate::string_buffer::{HeldText, StringBuffer, part_of};
 use crate::table::KeyTable;
 use elf_record::numbers::{SHT_GROUP, STT_SECTION};
 use elf_record::{Cause, Shdr, word};
@@ -36,8 +38,8 @@ const WORD_SIZE: usize = 4;
 /// What the name of a link-once section begins with.
 const LINK_ONCE: &[u8] = b".gnu.linkonce.";
 
-/// A section group: its header's file offset, the file offset and the size of its words, the index of
-/// its symbol, the section of its symbol table, that table, and the names of that.
+/// A section group: its header's file offset, the file offset and the size of its words, the index
+/// of its symbol, the section of its symbol table, that table, and the names of that.
 #[derive(Clone, Copy)]
 struct GroupInFile {
     at: u64,
@@ -178,8 +180,8 @@ fn take_group<S: Source>(
 /// Returns the group of a section.
 ///
 /// # Errors
-/// At the section's header: `SizeNotWhole` and `TableOutside` of its words, `BadLink` if it links to
-/// no symbol table; those of that table; `SymbolIndex` if that has no symbol of its index.
+/// At the section's header: `SizeNotWhole` and `TableOutside` of its words, `BadLink` if it links
+/// to no symbol table; those of that table; `SymbolIndex` if that has no symbol of its index.
 fn group_at(view: &SectionView<'_>, section: u16) -> Result<GroupInFile, LinkFault>
     requires { section < view.now.store.now.loaded }
     ensures { (file : List ℕ) → HoldsSectionHeaders file view.now.loaded view.now.store.now →
@@ -222,10 +224,11 @@ fn group_of(header: &Shdr, at: u64, symbols: (Table, Names)) -> Result<GroupInFi
 /// too.
 ///
 /// # Errors
-/// At the offset `at`: `SizeNotWhole` if they are not whole, `TableOutside` if they end past the end
-/// of the file.
+/// At the offset `at`: `SizeNotWhole` if they are not whole, `TableOutside` if they end past the
+/// end of the file.
 fn check_words(header: &Shdr, size: u64, at: u64) -> Result<(), Fault>
-    ensures { ChecksDecide (whole_checks_of size header.now.sh_offset header.now.sh_size at 4) result }
+    ensures { ChecksDecide
+        (whole_checks_of size header.now.sh_offset header.now.sh_size at 4) result }
 {
     if header.sh_size % WORD_SIZE as u64 != 0 {
         return refused(at, Cause::SizeNotWhole);
@@ -343,28 +346,6 @@ fn linked_symbols<S: Source>(
     })
 }
 
-/// Returns the name of a section, which is empty if the object has no names of sections.
-///
-/// # Errors
-/// Those of the name, at the section's header.
-fn section_name(
-    view: &SectionView<'_>,
-    tables: ObjectTables,
-    section: u16,
-    strings: &StringBuffer,
-) -> Result<HeldText, LinkFault>
-    requires { section < view.now.store.now.loaded }
-    ensures { (file : List ℕ) → HoldsSectionHeaders file view.now.loaded view.now.store.now →
-        HoldsTables file strings.now.bytes tables →
-        FindsSectionName file strings.now.bytes (section_at file section) result }
-{
-    let Some(names) = tables.sections else {
-        return Ok(NO_TEXT);
-    };
-    let index = u64::from(view.section(section).sh_name);
-    strings.name(names, index, view.place(section))
-}
-
 /// Drops a link-once section in no group whose name is known, or makes it known.
 ///
 /// # Errors
@@ -399,87 +380,4 @@ fn is_link_once(header: &Shdr, name: &[u8]) -> bool
         result ≡ is_link_once file at name.now }
 {
     header.sh_flags & SHF_GROUP == 0 && name.starts_with(LINK_ONCE)
-}
-
-/// Notes the sections that are not dropped and that symbols are made of: those whose names are
-/// identifiers of C.
-///
-/// # Errors
-/// Those of a name, at the section's header; there is no room for it.
-pub(crate) fn note_sections(
-    view: &SectionView<'_>,
-    tables: ObjectTables,
-    strings: &StringBuffer,
-    marks: &SectionMarks,
-    keys: &mut KeyTable<'_>,
-) -> Result<(), LinkFault>
-    ensures { (file dropped : List ℕ) →
-        HoldsSectionHeaders file view.now.loaded view.now.store.now →
-        HoldsTables file strings.now.bytes tables →
-        MarksDropped (e_shnum file) marks.now dropped →
-        NotesSections file dropped keys.old keys.new result }
-{
-    for section in 0..view.sections() {
-        note_section(view, tables, section, strings, marks, keys)?;
-    }
-    Ok(())
-}
-
-/// Notes a section, if it is not dropped and its name is an identifier of C.
-///
-/// # Errors
-/// Those of its name, at the section's header; there is no room for it.
-fn note_section(
-    view: &SectionView<'_>,
-    tables: ObjectTables,
-    section: u16,
-    strings: &StringBuffer,
-    marks: &SectionMarks,
-    keys: &mut KeyTable<'_>,
-) -> Result<(), LinkFault>
-    requires { section < view.now.store.now.loaded }
-    ensures { (file dropped : List ℕ) →
-        HoldsSectionHeaders file view.now.loaded view.now.store.now →
-        HoldsTables file strings.now.bytes tables →
-        MarksDropped (e_shnum file) marks.now dropped →
-        NotesName file dropped section keys.old keys.new result }
-{
-    let name = section_name(view, tables, section, strings)?;
-    let text = strings.bytes(name);
-    if !is_identifier(text) {
-        return Ok(());
-    }
-    if marks.is_dropped(u32::from(section)) {
-        return Ok(());
-    }
-    match keys.note_section(text) {
-        Ok(()) => Ok(()),
-        Err(fault) => Err(full(view.place(section), fault)),
-    }
-}
-
-/// Returns `true` if a name has letters, digits and underscores alone, at least one.
-fn is_identifier(name: &[u8]) -> bool
-    ensures { result ≡ is_identifier name.now }
-{
-    !name.is_empty() && are_identifier_bytes(name)
-}
-
-/// Returns `true` if all bytes are letters, digits or underscores.
-fn are_identifier_bytes(bytes: &[u8]) -> bool
-    ensures { result ≡ list_all is_identifier_byte bytes.now }
-{
-    for byte in bytes {
-        if !is_identifier_byte(*byte) {
-            return false;
-        }
-    }
-    true
-}
-
-/// Returns `true` if a byte is a letter, a digit or an underscore.
-fn is_identifier_byte(byte: u8) -> bool
-    ensures { result ≡ is_identifier_byte byte }
-{
-    byte.is_ascii_alphanumeric() || byte == b'_'
 }

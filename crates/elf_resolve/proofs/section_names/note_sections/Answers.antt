@@ -2,7 +2,7 @@ use Rattle.std.proofs.Common.{◌≡◌, ℕ, ◌+◌, ◌<◌, ◌≤◌, List,
 use Rattle.std.proofs.lemmas.Result.{err_from_is_err_and}
 use Rattle.elf_model.specs.Records.{e_shnum}
 use Rattle.elf_resolve.proofs.SectionNameLaws.{noted_all, noted_fault, noted_first, noted_more}
-use Rattle.elf_resolve.proofs.section_groups.note_sections.Goals as goal
+use Rattle.elf_resolve.proofs.section_names.note_sections.Goals as goal
 
 pub loop-section-init : goal.loop-section-init
 loop-section-init c = λ file dropped viewed held marked. noted_first file dropped c.args.keys.now

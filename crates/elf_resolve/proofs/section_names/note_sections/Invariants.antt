@@ -4,7 +4,7 @@ use Rattle.elf_table.specs.Load.{HoldsSectionHeaders}
 use Rattle.elf_resolve.specs.ObjectTables.{HoldsTables}
 use Rattle.elf_resolve.specs.SectionMarks.{MarksDropped}
 use Rattle.elf_resolve.proofs.SectionNameLaws.{NotedSoFar}
-use Rattle.elf_resolve.proofs.section_groups.note_sections.Given as goal
+use Rattle.elf_resolve.proofs.section_names.note_sections.Given as goal
 
 abbrev pub invariant-loop-section : goal.invariant-loop-section
 invariant-loop-section l =

@@ -3,7 +3,7 @@ use Rattle.std.specs.Prelude.{List, ℕ, ◌≡◌}
 use Rattle.elf_model.specs.Records.{section_at}
 use Rattle.elf_resolve.specs.ObjectTables.{HoldsNames, HoldsSectionNames}
 use Rattle.elf_resolve.proofs.SectionGroupLaws.{no_section_names, place-is, section_name-found}
-use Rattle.elf_resolve.proofs.section_groups.section_name.Goals as goal
+use Rattle.elf_resolve.proofs.section_names.section_name.Goals as goal
 
 pub returns-in_default : goal.returns-in_default
 returns-in_default c = λ file viewed held. no_section_names file c.args.strings.now.bytes _ c.args.tables.sections c.in_default.is

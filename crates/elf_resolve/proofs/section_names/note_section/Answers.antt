@@ -6,7 +6,7 @@ use Rattle.elf_model.specs.LinkSymbols.{is_identifier}
 use Rattle.elf_resolve.specs.SectionGroups.{named_sections}
 use Rattle.elf_resolve.proofs.LinkFaultLaws.{fault_of_any}
 use Rattle.elf_resolve.proofs.SectionNameLaws.{name_fault, noted_dropped, noted_none, noted_one}
-use Rattle.elf_resolve.proofs.section_groups.note_section.Goals as goal
+use Rattle.elf_resolve.proofs.section_names.note_section.Goals as goal
 
 pub returns-in_err-name : goal.returns-in_err-name
 returns-in_err-name c = λ file dropped viewed held marked.
