@@ -11,3 +11,5 @@ pub mod LeftLaws
 pub mod KnownLaws
 pub mod GroupLaws
 pub mod StatedLaws
+pub mod ChainLaws
+pub mod KeyListLaws

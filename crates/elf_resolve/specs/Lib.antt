@@ -15,3 +15,5 @@ pub mod StringBuffers
 pub mod Taken
 pub mod Resolved
 pub mod ObjectTables
+pub mod KeyChains
+pub mod KeyLists

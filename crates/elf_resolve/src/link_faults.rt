@@ -1,5 +1,6 @@
 //! Why a link is refused, or its files cannot be read.
 ghost use Rattle.std.specs.Prelude.{◌≡◌, ◌≤◌, length, Err};
+ghost use Rattle.elf_model.specs.LinkArchives.{link_cause_word};
 
 use crate::table::KeyFault;
 use elf_format::cause_word;
@@ -66,8 +67,10 @@ pub(crate) fn in_member(fault: LinkFault, start: u64) -> LinkFault {
 }
 
 /// Returns the word for a cause in a line.
+#[tactic(auto, unfolding(elf_model::specs::LinkArchives::link_cause_word))]
 pub fn link_cause_word(cause: LinkCause) -> &'static str
-    ensures { length result.now ≤ 18 }
+    ensures word { result.now ≡ link_cause_word cause }
+    ensures short { length result.now ≤ 18 }
 {
     match cause {
         LinkCause::Refused(cause) => cause_word(cause),
