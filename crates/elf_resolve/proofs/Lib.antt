@@ -13,3 +13,5 @@ pub mod GroupLaws
 pub mod StatedLaws
 pub mod ChainLaws
 pub mod KeyListLaws
+pub mod LinkerNameLaws
+pub mod LinkFaultLaws

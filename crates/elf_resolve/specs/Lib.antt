@@ -17,3 +17,6 @@ pub mod Resolved
 pub mod ObjectTables
 pub mod KeyChains
 pub mod KeyLists
+pub mod SectionMarks
+pub mod LinkerNames
+pub mod LinkFaults

@@ -1,5 +1,5 @@
 -- The tables of an object in a buffer.
-use Rattle.std.specs.Prelude.{ℕ, ◌≡◌, List, Option, None, Some}
+use Rattle.std.specs.Prelude.{ℕ, ◌≡◌, ◌<◌, List, Option, None, Some}
 use Rattle.elf_model.specs.LinkSymbols.{symbol_table_in}
 use Rattle.elf_model.specs.Records.{e_shstrndx, section_at, sh_info, sh_offset}
 use Rattle.elf_model.specs.Tables.{SYMBOL_SIZE, entry_count, section_bytes, strings_of}
@@ -8,10 +8,10 @@ use Rattle.elf_resolve.specs.declared.object.ObjectTables.{ObjectTables}
 use Rattle.elf_resolve.specs.declared.object.SymbolRows.{SymbolRows}
 use Rattle.elf_resolve.specs.declared.string_buffer.HeldText.{HeldText}
 
--- the symbols of the table whose section header is at an offset, and their names
+-- the symbols of the table whose section header is at an offset, and their names, if it has some
 pub record HoldsSymbols (file bytes : List ℕ) (table_at : ℕ) (symbols : SymbolRows) : Type 0 where
   pub rows : HoldsText bytes symbols.rows (section_bytes file table_at)
-  pub names : HoldsText bytes symbols.names (strings_of file table_at)
+  pub names : 0 < symbols.count → HoldsText bytes symbols.names (strings_of file table_at)
   pub at : symbols.at ≡ sh_offset file table_at
   pub count : symbols.count ≡ entry_count file table_at SYMBOL_SIZE
 

@@ -1,7 +1,7 @@
 -- What a buffer of tables holds, and the texts in it.
-use Rattle.std.specs.Prelude.{ℕ, ◌≡◌, ◌+◌, ◌≤◌, ◌++◌, List, [], ◌∷◌, length, take, None, Result, Ok, Err}
+use Rattle.std.specs.Prelude.{ℕ, ◌≡◌, ◌+◌, ◌<◌, ◌≤◌, ◌^◌, ◌++◌, true, false, List, [], ◌∷◌, length, drop, take, Option, None, Some, Result, Ok, Err}
 use Rattle.elf_model.specs.Bytes.{slice}
-use Rattle.elf_model.specs.LinkSymbols.{AT, link_name}
+use Rattle.elf_model.specs.LinkSymbols.{AT, is_default_at, link_name, version_sign_in}
 use Rattle.elf_model.specs.declared.link_states.LinkRefusal.{LinkRefusal}
 use Rattle.elf_resolve.specs.Taken.{IsLinkFault}
 use Rattle.elf_resolve.specs.declared.link_faults.LinkFault.{LinkFault}
@@ -13,15 +13,26 @@ pub record TableTexts : Type 0 where
   pub bytes : List ℕ
   pub most : ℕ
 
+-- bytes after others, at most so many
+abbrev pub ExtendsBy : (most : ℕ) → (old new : List ℕ) → Type 0
+ExtendsBy most old new = (take (length old) new ≡ old) × (length new ≤ length old + most)
+
 -- A TEXT is in the bytes of a buffer
 pub record HoldsText (bytes : List ℕ) (text : HeldText) (is : List ℕ) : Type 0 where
   pub within : text.start + text.size ≤ length bytes
+  pub fits : text.start + text.size < 2 ^ 64
   pub bytes_are : slice bytes text.start text.size ≡ is
+
+-- bytes of a file fill a slice, if there are some within the file
+abbrev pub ReadsAll : List ℕ → (at size : ℕ) → (out : List ℕ) → Result (Unit {0}) LinkFault → Type 0
+ReadsAll file at size out (Ok done) = (0 < size → at + size ≤ length file) × (out ≡ slice file at size)
+ReadsAll file at size out (Err fault) = at + size ≤ length file → IsLinkFault None fault
 
 -- bytes of a file are appended
 pub record ReadText (file : List ℕ) (at size : ℕ) (old new : TableTexts) (text : HeldText) : Type 0 where
-  pub within : at + size ≤ length file
+  pub within : 0 < size → at + size ≤ length file
   pub start : text.start ≡ length old.bytes
+  pub fits : text.start + text.size < 2 ^ 64
   pub size_is : text.size ≡ size
   pub bytes : new.bytes ≡ old.bytes ++ slice file at size
   pub most : new.most ≡ old.most
@@ -46,9 +57,22 @@ FindsText bytes strings index at (Err Open) = ⊥
 pub record JoinedTexts (old new : TableTexts) (name version : List ℕ) (text : HeldText) : Type 0 where
   pub bytes : new.bytes ≡ old.bytes ++ (name ++ AT ∷ version)
   pub start : text.start ≡ length old.bytes
+  pub fits : text.start + text.size < 2 ^ 64
   pub size_is : text.size ≡ length (name ++ AT ∷ version)
   pub most : new.most ≡ old.most
 
 abbrev pub JoinsTexts : (old new : TableTexts) → (name version : List ℕ) → Result HeldText LinkFault → Type 0
 JoinsTexts old new name version (Ok text) = JoinedTexts old new name version text
 JoinsTexts old new name version (Err fault) = IsLinkFault None fault
+
+-- A NAME SPLIT at the signs before its default version, whatever buffer holds it
+pub record SplitName (bytes : List ℕ) (name base version : HeldText) : Type 0 where
+  pub place : ℕ
+  pub sign : version_sign_in bytes ≡ Some place
+  pub is_default : is_default_at bytes place ≡ true
+  pub base_held : (buffer : List ℕ) → HoldsText buffer name bytes → HoldsText buffer base (take place bytes)
+  pub version_held : (buffer : List ℕ) → HoldsText buffer name bytes → HoldsText buffer version (drop (place + 2) bytes)
+
+abbrev pub SplitsName : (bytes : List ℕ) → (name : HeldText) → Option (HeldText × HeldText) → Type 0
+SplitsName bytes name None = (place : ℕ) → version_sign_in bytes ≡ Some place → is_default_at bytes place ≡ false
+SplitsName bytes name (Some parts) = SplitName bytes name parts.0 parts.1

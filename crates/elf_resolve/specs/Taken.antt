@@ -1,5 +1,5 @@
 -- What a link takes of files whose bytes are known, up to the first refusal.
-use Rattle.std.specs.Prelude.{ℕ, ◌≡◌, ◌⊎◌, ◌++◌, Bool, List, [], Option, None, Some, Result, Ok, Err, map, option_map}
+use Rattle.std.specs.Prelude.{⊤, ℕ, ◌≡◌, ◌⊎◌, ◌++◌, Bool, List, [], Option, None, Some, Result, Ok, Err, map, option_map}
 use Rattle.elf_model.specs.Archive.{FileRange}
 use Rattle.elf_model.specs.LinkArchives.{LinkMember, archive_index, link_members, members_refusal, name_table, refusal_of}
 use Rattle.elf_model.specs.LinkInputs.{IndexSymbol, index_entered}

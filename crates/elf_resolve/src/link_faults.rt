@@ -1,6 +1,9 @@
 //! Why a link is refused, or its files cannot be read.
-ghost use Rattle.std.specs.Prelude.{◌≡◌, ◌≤◌, length, Err};
-ghost use Rattle.elf_model.specs.LinkArchives.{link_cause_word};
+ghost use Rattle.std.specs.Prelude.{◌≡◌, ◌≤◌, length, Err, None, Option};
+ghost use Rattle.elf_model.specs.LinkArchives.{link_cause_word, moved};
+ghost use Rattle.elf_model.specs.declared.link_states.LinkRefusal.{LinkRefusal as LinkRefusal};
+ghost use Rattle.elf_resolve.specs.LinkFaults.{MovesWithin, fault_of_table};
+ghost use Rattle.elf_resolve.specs.Taken.{IsLinkFault};
 
 use crate::table::KeyFault;
 use elf_format::cause_word;
@@ -20,6 +23,8 @@ pub enum LinkFault {
 }
 
 impl From<Fault> for LinkFault {
+    ghost from_gives = { λ fault link_fault. link_fault ≡ fault_of_table fault };
+
     fn from(fault: Fault) -> LinkFault {
         match fault {
             Fault::Refused(refusal) => LinkFault::Refused(LinkRefusal {
@@ -47,7 +52,9 @@ pub(crate) fn file_refused<T>(at: u64, cause: Cause) -> Result<T, LinkFault>
 }
 
 /// Returns the refusal for lack of room for a name, which is at a file offset.
-pub(crate) fn full(at: u64, fault: KeyFault) -> LinkFault {
+pub(crate) fn full(at: u64, fault: KeyFault) -> LinkFault
+    ensures { IsLinkFault None result }
+{
     let cause = match fault {
         KeyFault::TooManyKeys | KeyFault::TooManyBytes => LinkCause::TooManyKeys,
         KeyFault::TooManyFurther => LinkCause::TooManyRows,
@@ -56,7 +63,10 @@ pub(crate) fn full(at: u64, fault: KeyFault) -> LinkFault {
 }
 
 /// Returns a fault of a member whose first byte is at an offset of its archive.
-pub(crate) fn in_member(fault: LinkFault, start: u64) -> LinkFault {
+pub(crate) fn in_member(fault: LinkFault, start: u64) -> LinkFault
+    ensures { (known : Option LinkRefusal) → MovesWithin start known → IsLinkFault known fault →
+        IsLinkFault (moved start known) result }
+{
     match fault {
         LinkFault::Refused(refusal) => LinkFault::Refused(LinkRefusal {
             at: refusal.at.saturating_add(start),

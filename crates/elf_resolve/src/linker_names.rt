@@ -1,4 +1,8 @@
 //! The names that a linker defines itself, if no file does.
+ghost use Rattle.std.specs.Prelude.{◌≡◌, MatchOption, None, Some, bytes_eq};
+ghost use Rattle.std.specs.List.{list_any};
+ghost use Rattle.elf_model.specs.LinkLines.{linker_names};
+ghost use Rattle.elf_resolve.specs.LinkerNames.{bounded_name, defines_name, output_of};
 
 /// How many names are defined in every link.
 const ALWAYS_COUNT: usize = 22;
@@ -52,7 +56,9 @@ pub struct OutputKind {
 }
 
 /// Returns `true` if a linker defines a name, apart from the bounds of sections.
-pub(crate) fn is_linker_name(name: &[u8], output: OutputKind) -> bool {
+pub(crate) fn is_linker_name(name: &[u8], output: OutputKind) -> bool
+    ensures { result ≡ defines_name (output_of output) name.now }
+{
     if name == DYNAMIC_NAME {
         return output.is_dynamic;
     }
@@ -63,10 +69,18 @@ pub(crate) fn is_linker_name(name: &[u8], output: OutputKind) -> bool {
 }
 
 /// Returns `true` if a name is defined in every link.
-fn is_always(name: &[u8]) -> bool {
-    for index in 0..ALWAYS_COUNT {
-        let known = ALWAYS[index];
-        if known.as_bytes() == name {
+fn is_always(name: &[u8]) -> bool
+    ensures { result ≡ list_any (bytes_eq name.now) linker_names }
+{
+    is_one_of(name, &ALWAYS)
+}
+
+/// Returns `true` if a name is one of some.
+fn is_one_of(name: &[u8], names: &[&str]) -> bool
+    ensures { result ≡ list_any (λ n. bytes_eq name.now n.now) names.now }
+{
+    for known in names {
+        if name == known.as_bytes() {
             return true;
         }
     }
@@ -74,7 +88,10 @@ fn is_always(name: &[u8]) -> bool {
 }
 
 /// Returns the name of the section whose beginning or end a name is.
-pub(crate) fn bounded_section(name: &[u8]) -> Option<&[u8]> {
+pub(crate) fn bounded_section(name: &[u8]) -> Option<&[u8]>
+    ensures { MatchOption result (bounded_name name.now ≡ None)
+        (λ section. bounded_name name.now ≡ Some section.now) }
+{
     match name.strip_prefix(BEGINNING) {
         Some(section) => Some(section),
         None => name.strip_prefix(ENDING),

@@ -1,7 +1,9 @@
 //! The tables of a file, read whole.
-ghost use Rattle.std.specs.Prelude.{◌≡◌, ◌≤◌, IfSome, List, ℕ, Some, length, take};
+ghost use Rattle.std.specs.Prelude.{◌≡◌, ◌+◌, ◌<◌, ◌≤◌, ◌==◌, ◌^◌, ◌++◌, IfOk, IfSome, List, [], ℕ, Some, drop, length, slice_index, take, vec_capacity};
+ghost use Rattle.elf_model.specs.Bytes.{slice};
+ghost use Rattle.elf_model.specs.LinkSymbols.{AT};
 ghost use Rattle.elf_source.specs.Prelude.{KeepsSource};
-ghost use Rattle.elf_resolve.specs.StringBuffers.{FindsText, HoldsText, JoinsTexts, KeptTexts, ReadsText};
+ghost use Rattle.elf_resolve.specs.StringBuffers.{ExtendsBy, FindsText, HoldsText, JoinsTexts, KeptTexts, ReadsAll, ReadsText, SplitsName};
 
 use crate::link_faults::{LinkFault, file_refused, refused};
 use elf_model::LinkCause;
@@ -48,7 +50,9 @@ impl StringBuffer {
     ///
     /// # Errors
     /// Out of memory.
-    pub(crate) fn new(alloc: Global, size: u32) -> Result<StringBuffer, AllocError> {
+    pub(crate) fn new(alloc: Global, size: u32) -> Result<StringBuffer, AllocError>
+        ensures { IfOk result (λ made. made ≡ record { bytes = []; most = size }) }
+    {
         let most = size as usize;
         let bytes = Vec::with_capacity(alloc, most)?;
         Ok(StringBuffer { bytes, most })
@@ -157,19 +161,26 @@ impl StringBuffer {
     }
 }
 
-/// Appends a text that is in the same bytes.
-fn append_part(bytes: &mut Vec<u8>, text: HeldText) {
-    let start = bytes.len();
-    let end = start.saturating_add(text.size);
-    if text.start > start || text.size > start - text.start || bytes.resize(end, 0).is_err() {
+/// Appends a text that is in the same bytes; nothing if it is not.
+fn append_part(bytes: &mut Vec<u8>, text: HeldText)
+    requires room { length bytes.old.items + text.size ≤ vec_capacity bytes.old }
+    ensures capacity { vec_capacity bytes.old ≤ vec_capacity bytes.new }
+    ensures stays { ExtendsBy text.size bytes.old.items bytes.new.items }
+    ensures appends { (is : List ℕ) → HoldsText bytes.old.items text is →
+        bytes.new.items ≡ bytes.old.items ++ is }
+{
+    let used = bytes.len();
+    if text.start > used || text.size > used - text.start {
         return;
     }
-    bytes.copy_within(text.start..text.start + text.size, start);
+    bytes
+        .extend_from_within(text.start..text.start + text.size)
+        .unwrap();
 }
 
 /// Returns the index after `size` bytes from an index on, if there are so many of `most`.
 fn end_within(start: usize, size: u64, most: usize) -> Option<usize>
-    ensures { IfSome result (λ end. (start ≤ end) × (end ≤ most)) }
+    ensures { IfSome result (λ end. (end ≡ start + size) × (end ≤ most)) }
 {
     if start > most || size > (most - start) as u64 {
         return None;
@@ -178,7 +189,10 @@ fn end_within(start: usize, size: u64, most: usize) -> Option<usize>
 }
 
 /// Returns `size` bytes from an index on; none if there are fewer.
-pub(crate) fn part_of(bytes: &[u8], start: usize, size: usize) -> &[u8] {
+pub(crate) fn part_of(bytes: &[u8], start: usize, size: usize) -> &[u8]
+    ensures held { start + size ≤ length bytes.now → result.now ≡ slice bytes.now start size }
+    ensures none { length bytes.now < start + size → result.now ≡ [] }
+{
     match after(bytes, start).split_at_checked(size) {
         Some((part, _)) => part,
         None => b"",
@@ -186,7 +200,9 @@ pub(crate) fn part_of(bytes: &[u8], start: usize, size: usize) -> &[u8] {
 }
 
 /// Returns the bytes from an index on; none past the end.
-fn after(bytes: &[u8], start: usize) -> &[u8] {
+fn after(bytes: &[u8], start: usize) -> &[u8]
+    ensures { result.now ≡ drop start bytes.now }
+{
     match bytes.split_at_checked(start) {
         Some((_, rest)) => rest,
         None => b"",
@@ -202,12 +218,18 @@ pub(crate) fn read_all<S: Source>(
     src: &mut Counted<S>,
     at: u64,
     out: &mut [u8],
-) -> Result<(), LinkFault> {
-    let mut place = at;
-    for piece in out.chunks_mut(READ_BYTES) {
-        let count = piece.len() as u64;
-        read_piece(src, place, piece)?;
-        place = place.saturating_add(count);
+) -> Result<(), LinkFault>
+    ensures keeps { KeepsSource src.old.seen src.new.seen }
+    ensures reads { (file : List ℕ) → src.old.seen.file ≡ Some file →
+        ReadsAll file at (length out.old) out.new result }
+{
+    let mut done: usize = 0;
+    while done < out.len() {
+        let left = out.len() - done;
+        let count = if left < READ_BYTES { left } else { READ_BYTES };
+        let place = at.saturating_add(done as u64);
+        read_piece(src, place, &mut out[done..done + count])?;
+        done += count;
     }
     Ok(())
 }
@@ -216,9 +238,15 @@ pub(crate) fn read_all<S: Source>(
 ///
 /// # Errors
 /// Those of [`read_all`].
-fn read_piece<S: Source>(src: &mut Counted<S>, at: u64, out: &mut [u8]) -> Result<(), LinkFault> {
+fn read_piece<S: Source>(src: &mut Counted<S>, at: u64, out: &mut [u8]) -> Result<(), LinkFault>
+    requires { length out.old ≤ 4096 }
+    ensures keeps { KeepsSource src.old.seen src.new.seen }
+    ensures fits { src.old.seen.size < 2 ^ 64 }
+    ensures reads { (file : List ℕ) → src.old.seen.file ≡ Some file →
+        ReadsAll file at (length out.old) out.new result }
+{
     let length = src.length();
-    if out.len() > READ_BYTES || at > length || out.len() as u64 > length - at {
+    if at > length || out.len() as u64 > length - at {
         return file_refused(at, Cause::TableOutside);
     }
     Ok(fill(src, at, out)?)
@@ -226,7 +254,9 @@ fn read_piece<S: Source>(src: &mut Counted<S>, at: u64, out: &mut [u8]) -> Resul
 
 /// Returns the parts of a name `NAME@@VERSION`, if it is one: the first `@` is not its first byte,
 /// and another follows.
-pub(crate) fn split_version(bytes: &[u8], name: HeldText) -> Option<(HeldText, HeldText)> {
+pub(crate) fn split_version(bytes: &[u8], name: HeldText) -> Option<(HeldText, HeldText)>
+    ensures { SplitsName bytes.now name result }
+{
     let place = memchr(b'@', bytes)?;
     let version = place.saturating_add(2);
     if place == 0 || !is_sign(bytes, place.saturating_add(1)) {
@@ -244,7 +274,9 @@ pub(crate) fn split_version(bytes: &[u8], name: HeldText) -> Option<(HeldText, H
 }
 
 /// Returns `true` if the byte at an index is `@`.
-fn is_sign(bytes: &[u8], index: usize) -> bool {
+fn is_sign(bytes: &[u8], index: usize) -> bool
+    ensures { result ≡ (slice_index bytes.now index == AT) }
+{
     match bytes.get(index) {
         Some(byte) => *byte == b'@',
         None => false,
