@@ -14,4 +14,5 @@ pub mod StatedLaws
 pub mod ChainLaws
 pub mod KeyListLaws
 pub mod LinkerNameLaws
+pub mod StringBufferLaws
 pub mod LinkFaultLaws

@@ -1,5 +1,5 @@
 //! The tables of a file, read whole.
-ghost use Rattle.std.specs.Prelude.{◌≡◌, ◌+◌, ◌<◌, ◌≤◌, ◌==◌, ◌^◌, ◌++◌, IfOk, IfSome, List, [], ℕ, Some, drop, length, slice_index, take, vec_capacity};
+ghost use Rattle.std.specs.Prelude.{◌≡◌, ◌+◌, ◌<◌, ◌≤◌, ◌==◌, ◌^◌, ◌++◌, IfOk, IfSome, IsTrue, List, [], ◌∷◌, ℕ, Some, drop, length, slice_index, take, vec_capacity};
 ghost use Rattle.elf_model.specs.Bytes.{slice};
 ghost use Rattle.elf_model.specs.LinkSymbols.{AT};
 ghost use Rattle.elf_source.specs.Prelude.{KeepsSource};
@@ -155,7 +155,7 @@ impl StringBuffer {
             return refused(at, LinkCause::TooManyKeys);
         }
         append_part(&mut self.bytes, name);
-        self.bytes.push(b'@').unwrap();
+        append_sign(&mut self.bytes);
         append_part(&mut self.bytes, version);
         Ok(HeldText { start, size })
     }
@@ -176,6 +176,15 @@ fn append_part(bytes: &mut Vec<u8>, text: HeldText)
     bytes
         .extend_from_within(text.start..text.start + text.size)
         .unwrap();
+}
+
+/// Appends the sign of a version.
+fn append_sign(bytes: &mut Vec<u8>)
+    requires room { length bytes.old.items < vec_capacity bytes.old }
+    ensures capacity { vec_capacity bytes.old ≤ vec_capacity bytes.new }
+    ensures appends { bytes.new.items ≡ bytes.old.items ++ AT ∷ [] }
+{
+    bytes.push(b'@').unwrap();
 }
 
 /// Returns the index after `size` bytes from an index on, if there are so many of `most`.
@@ -225,8 +234,7 @@ pub(crate) fn read_all<S: Source>(
 {
     let mut done: usize = 0;
     while done < out.len() {
-        let left = out.len() - done;
-        let count = if left < READ_BYTES { left } else { READ_BYTES };
+        let count = (out.len() - done).min(READ_BYTES);
         let place = at.saturating_add(done as u64);
         read_piece(src, place, &mut out[done..done + count])?;
         done += count;
@@ -258,8 +266,7 @@ pub(crate) fn split_version(bytes: &[u8], name: HeldText) -> Option<(HeldText, H
     ensures { SplitsName bytes.now name result }
 {
     let place = memchr(b'@', bytes)?;
-    let version = place.saturating_add(2);
-    if place == 0 || !is_sign(bytes, place.saturating_add(1)) {
+    if place == 0 || !is_sign_after(bytes, place) {
         return None;
     }
     let base = HeldText {
@@ -267,18 +274,17 @@ pub(crate) fn split_version(bytes: &[u8], name: HeldText) -> Option<(HeldText, H
         size: place,
     };
     let version = HeldText {
-        start: name.start.saturating_add(version),
-        size: name.size.saturating_sub(version),
+        start: name.start.saturating_add(place + 2),
+        size: name.size.saturating_sub(place + 2),
     };
     Some((base, version))
 }
 
-/// Returns `true` if the byte at an index is `@`.
-fn is_sign(bytes: &[u8], index: usize) -> bool
-    ensures { result ≡ (slice_index bytes.now index == AT) }
+/// Returns `true` if the byte after an index is `@`.
+fn is_sign_after(bytes: &[u8], place: usize) -> bool
+    requires { place < length bytes.now }
+    ensures is { result ≡ (slice_index bytes.now (place + 1) == AT) }
+    ensures within { IsTrue result → place + 2 < 2 ^ 64 }
 {
-    match bytes.get(index) {
-        Some(byte) => *byte == b'@',
-        None => false,
-    }
+    place < bytes.len() - 1 && bytes[place + 1] == b'@'
 }
