@@ -16,3 +16,6 @@ pub mod KeyListLaws
 pub mod LinkerNameLaws
 pub mod StringBufferLaws
 pub mod LinkFaultLaws
+pub mod KeyFindLaws
+pub mod EntryRowLaws
+pub mod ListShownLaws

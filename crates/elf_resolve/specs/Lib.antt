@@ -20,3 +20,8 @@ pub mod KeyLists
 pub mod SectionMarks
 pub mod LinkerNames
 pub mod LinkFaults
+pub mod FoundStates
+pub mod KeyFinds
+pub mod EntryRows
+pub mod LinkTexts
+pub mod KeyLines

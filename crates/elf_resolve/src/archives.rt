@@ -180,25 +180,3 @@ pub(crate) fn member_with_header(members: &[u64], offset: u64) -> Option<u32> {
         _ => None,
     }
 }
-
-impl ArchiveTables {
-    /// Returns the row of the archive that has an entry.
-    pub(crate) fn row_of_entry(&self, entry: usize) -> Option<u32> {
-        let mut low = 0;
-        let mut high = self.archives.len();
-        for _ in 0..64 {
-            if low >= high {
-                break;
-            }
-            let middle = middle_of(low, high);
-            match self.archives.get(middle) {
-                Some(archive) if archive.entries.1 <= entry => low = middle.saturating_add(1),
-                _ => high = middle,
-            }
-        }
-        match self.archives.get(low) {
-            Some(archive) => Some(archive.row),
-            None => None,
-        }
-    }
-}

@@ -1,15 +1,16 @@
 //! The lines of the rows of a link, field by field.
-ghost use Rattle.std.specs.Prelude.{◌≡◌, ℕ, ◌+◌, ◌≤◌, length, Some};
+ghost use Rattle.std.specs.Prelude.{◌≡◌, ◌+◌, ◌≤◌, length};
 ghost use Rattle.arrayvec.specs.ArrayVec.{array_vec_len};
 ghost use Rattle.elf_format.specs.Fronts.{front_of};
 ghost use Rattle.elf_format.specs.Named.{shown_as};
 ghost use Rattle.elf_format.specs.Rooms.{text_room};
 ghost use Rattle.elf_model.specs.Fields.{with_field};
 ghost use Rattle.elf_model.specs.LinkArchives.{link_cause_word};
-ghost use Rattle.elf_model.specs.LinkLines.{file_front, further_front, index_field, key_front, offer_front, reason_front, row_kind_word};
+ghost use Rattle.elf_model.specs.LinkLines.{file_front, further_front, index_field, key_front, reason_front, row_kind_word};
 ghost use Rattle.elf_model.specs.Lines.{fault_line, named_line};
 ghost use Rattle.elf_model.specs.Names.DisplayedName.{Whole};
 ghost use Rattle.elf_model.specs.Text.{space};
+ghost use Rattle.elf_resolve.specs.KeyLines.{had_front};
 ghost use Rattle.elf_resolve.specs.Lines.{FitsColumn};
 ghost use Rattle.elf_source.specs.Output.{OutPuts};
 
@@ -211,10 +212,9 @@ pub(crate) fn show_further_line<W: Sink, R: Render>(
 }
 
 /// Begins the line of a file that has a key.
-#[tactic(auto, unfolding(elf_model::specs::LinkLines::offer_front))]
+#[tactic(auto, unfolding(crate::specs::KeyLines::had_front))]
 fn begin_offer<R: Render>(front: &mut LinePrefix, row: Option<u32>, member: Option<u32>)
-    ensures front { (at : ℕ) → row ≡ Some at →
-        front_of front.new ≡ offer_front R.FORMAT at member }
+    ensures front { front_of front.new ≡ had_front R.FORMAT row member }
     ensures key { length front.new.key.now ≤ 16 }
 {
     begin_named::<R>(front, b"O", b"name");
@@ -232,8 +232,8 @@ pub(crate) fn show_offer_line<W: Sink, R: Render>(
     name: &[u8],
     out: &mut Out<W>,
 ) -> Result<(), OutFault>
-    ensures puts { (at : ℕ) → row ≡ Some at → OutPuts out.old out.new result
-        (named_line (offer_front R.FORMAT at member) (Whole name.now)) }
+    ensures puts { OutPuts out.old out.new result
+        (named_line (had_front R.FORMAT row member) (Whole name.now)) }
 {
     let mut front = LinePrefix::new();
     begin_offer::<R>(&mut front, row, member);
