@@ -19,3 +19,4 @@ pub mod LinkFaultLaws
 pub mod KeyFindLaws
 pub mod EntryRowLaws
 pub mod ListShownLaws
+pub mod KeyLineLaws

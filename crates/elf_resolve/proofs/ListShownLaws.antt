@@ -63,7 +63,7 @@ module _ (chains : ChainTable) (line : ℕ → List ℕ) (numbers : List ℕ) (n
       }
 
   -- one that can't be written
-  pub list_fails : {X : Type 0} (number : ℕ) (c : OutState) (fault : OutFault) → next ≡ Some number → SinkTakesPrefix b c (line number) × IsOutFault c fault
+  pub list_fails : (number : ℕ) (c : OutState) (fault : OutFault) → next ≡ Some number → SinkTakesPrefix b c (line number) × IsOutFault c fault
       → SinkTakesPrefix a c (concat (map line numbers)) × IsOutFault c fault
   list_fails number c fault is puts =
       let has = next_in number is in (

@@ -25,3 +25,4 @@ pub mod KeyFinds
 pub mod EntryRows
 pub mod LinkTexts
 pub mod KeyLines
+pub mod StaticLinks

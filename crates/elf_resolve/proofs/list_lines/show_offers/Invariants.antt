@@ -5,8 +5,8 @@ use Rattle.elf_resolve.specs.KeyLines.{line_of_number}
 use Rattle.elf_resolve.specs.LinkTexts.{IsListShown}
 use Rattle.elf_resolve.proofs.list_lines.show_offers.Given as goal
 
-abbrev pub invariant-loop-_turn : goal.invariant-loop-_turn
-invariant-loop-_turn g l = (from count : ℕ) (numbers : List ℕ)
+abbrev pub invariant-loop-turn : goal.invariant-loop-turn
+invariant-loop-turn g l = (from count : ℕ) (numbers : List ℕ)
     → AreConsecutive from l.link.tables.archives.items count
     → IsListFrom l.link.offers (first_number l.link.offers l.key) numbers
     → length numbers ≤ l.link.offers.numbers
