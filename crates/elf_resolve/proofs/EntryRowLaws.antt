@@ -4,7 +4,7 @@ use Rattle.std.specs.Prelude.{nat_lt, if◌then◌else◌, option_map}
 use Rattle.std.specs.List.{slice_get}
 use Rattle.std.specs.List.Sorted.{IsNonDecreasingBy}
 use Rattle.std.proofs.lemmas.Bool.{lt-ltb, le-ltb}
-use Rattle.elf_resolve.specs.EntryRows.{AreConsecutive, row_of_archive, row_of_place}
+use Rattle.elf_resolve.specs.EntryRows.{AreConsecutive, row_of_archive, row_with_entry}
 use Rattle.elf_resolve.specs.declared.archives.OpenedArchive.{OpenedArchive}
 
 abbrev pub entries_end : OpenedArchive → ℕ
@@ -23,9 +23,9 @@ ends_ascend from count (archive ∷ archives) are (suc i) zero d less there = ab
 ends_ascend from count (archive ∷ archives) are (suc i) (suc j) d less there = ends_ascend archive.entries.1 count archives are.2 i j d (omega (arith, less)) (omega (arith, there))
 
 pub row_at_point : (archives : List OpenedArchive) (place index : ℕ) → ((k : ℕ) (d : OpenedArchive) → k < index → k < length archives → entries_end (get_or archives k d) ≤ place)
-    → ((d : OpenedArchive) → index < length archives → place < entries_end (get_or archives index d)) → row_of_archive (slice_get archives index) ≡ row_of_place archives place
+    → ((d : OpenedArchive) → index < length archives → place < entries_end (get_or archives index d)) → row_of_archive (slice_get archives index) ≡ row_with_entry archives place
 row_at_point [] place index before at = refl
-row_at_point (archive ∷ archives) place zero before at = sym (ap (λ (b : Bool). if b then Some archive.row else row_of_place archives place) (lt-ltb place archive.entries.1 (at archive (omega arith))))
+row_at_point (archive ∷ archives) place zero before at = sym (ap (λ (b : Bool). if b then Some archive.row else row_with_entry archives place) (lt-ltb place archive.entries.1 (at archive (omega arith))))
 row_at_point (archive ∷ archives) place (suc index) before at =
     row_at_point archives place index (λ k d less there. before (suc k) d (omega (arith, less)) (omega (arith, there))) (λ d there. at d (omega (arith, there)))
-    ∙ sym (ap (λ (b : Bool). if b then Some archive.row else row_of_place archives place) (le-ltb place archive.entries.1 (before zero archive (omega arith) (omega arith))))
+    ∙ sym (ap (λ (b : Bool). if b then Some archive.row else row_with_entry archives place) (le-ltb place archive.entries.1 (before zero archive (omega arith) (omega arith))))

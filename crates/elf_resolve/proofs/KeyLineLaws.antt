@@ -11,7 +11,7 @@ use Rattle.elf_model.specs.Names.DisplayedName.{Whole}
 use Rattle.elf_model.specs.declared.formats.Format.{Format}
 use Rattle.elf_model.specs.declared.link_states.FurtherDefinition.{FurtherDefinition}
 use Rattle.elf_model.specs.declared.link_states.IndexEntry.{IndexEntry}
-use Rattle.elf_resolve.specs.EntryRows.{AreConsecutive, row_of_place}
+use Rattle.elf_resolve.specs.EntryRows.{AreConsecutive, row_with_entry}
 use Rattle.elf_resolve.specs.KeyChains.{Ascends, ChainTable, HasLists, IsListFrom, first_number}
 use Rattle.elf_resolve.specs.KeyLines.{had_front, line_of_number, line_of_place, member_of, row_of_further}
 use Rattle.elf_resolve.specs.KeyLists.{entry_numbers, further_places, with_place}
@@ -216,7 +216,7 @@ module _ (format : Format) (name : List ℕ) (key : ℕ) (get : ℕ → Option I
         slice_take (suc n) zero (x ∷ xs) less = refl
         slice_take (suc n) (suc i) (x ∷ xs) less = slice_take n i xs (omega (arith, less))
 
-    shown_from : (from : ℕ) (archives : List OpenedArchive) → AreConsecutive from archives (length entries) → ((place : ℕ) → from ≤ place → row_at place ≡ row_of_place archives place)
+    shown_from : (from : ℕ) (archives : List OpenedArchive) → AreConsecutive from archives (length entries) → ((place : ℕ) → from ≤ place → row_at place ≡ row_with_entry archives place)
         → map line_at (entry_numbers key from (drop from entries)) ≡ offer_lines format name key (map (open_archive entries taken) archives)
     shown_from from [] are rows = ap (λ (l : List IndexEntry). map line_at (entry_numbers key from l)) (drop_all from entries (omega (arith, are)))
     shown_from from (archive ∷ archives) are rows =
@@ -227,11 +227,11 @@ module _ (format : Format) (name : List ℕ) (key : ℕ) (get : ℕ → Option I
         ∙ ap (map line_at) (numbers_append key from part (drop to entries))
         ∙ map-append line_at (entry_numbers key from part) (entry_numbers key (from + length part) (drop to entries))
         ∙ ap (λ (l : List (List ℕ)). l ++ map line_at (entry_numbers key (from + length part) (drop to entries)))
-        (part_shown archive.row from part (λ i less. rows (from + i) (omega arith) ∙ ap (λ (b : Bool). if b then Some archive.row else row_of_place archives (from + i)) (lt-ltb (from + i) to (omega (arith, less, long))))
+        (part_shown archive.row from part (λ i less. rows (from + i) (omega arith) ∙ ap (λ (b : Bool). if b then Some archive.row else row_with_entry archives (from + i)) (lt-ltb (from + i) to (omega (arith, less, long))))
             (λ i less. gets (from + i) ∙ slice_part from to i entries (omega (arith, less, long))))
         ∙ ap (λ (n : ℕ). entry_lines format name archive.row (filter (has_key key) part) ++ map line_at (entry_numbers key n (drop to entries))) (ends long are.1)
         ∙ ap (λ (l : List (List ℕ)). entry_lines format name archive.row (filter (has_key key) part) ++ l)
-        (shown_from to archives are.2 (λ place above. rows place (omega (arith, above, are.1)) ∙ ap (λ (b : Bool). if b then Some archive.row else row_of_place archives place) (le-ltb place to above)))
+        (shown_from to archives are.2 (λ place above. rows place (omega (arith, above, are.1)) ∙ ap (λ (b : Bool). if b then Some archive.row else row_with_entry archives place) (le-ltb place to above)))
         ∙ ap (λ (l : List IndexEntry). entry_lines format name archive.row (filter (has_key key) l) ++ offer_lines format name key (map (open_archive entries taken) archives)) (sym (part_of entries taken from archive are.0))
       where
         ends : {n : ℕ} → n ≡ archive.entries.1 - from → from ≤ archive.entries.1 → from + n ≡ archive.entries.1
@@ -240,4 +240,4 @@ module _ (format : Format) (name : List ℕ) (key : ℕ) (get : ℕ → Option I
 pub offers_shown : (format : Format) (name : List ℕ) (key : ℕ) (archives : List OpenedArchive) (entries : List IndexEntry) (taken : List Bool) → AreConsecutive 0 archives (length entries)
     → map (line_of_number format archives entries name) (entry_numbers key 0 entries) ≡ offer_lines format name key (map (open_archive entries taken) archives)
 offers_shown format name key archives entries taken are =
-    shown_from format name key (slice_get entries) (row_of_place archives) entries taken (λ i. refl) 0 archives are (λ place above. refl)
+    shown_from format name key (slice_get entries) (row_with_entry archives) entries taken (λ i. refl) 0 archives are (λ place above. refl)

@@ -20,3 +20,4 @@ pub mod KeyFindLaws
 pub mod EntryRowLaws
 pub mod ListShownLaws
 pub mod KeyLineLaws
+pub mod KeyShownLaws

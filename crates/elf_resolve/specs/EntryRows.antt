@@ -10,9 +10,9 @@ AreConsecutive from (archive ∷ archives) count =
     (archive.entries.0 ≡ from) × (from ≤ archive.entries.1) × AreConsecutive archive.entries.1 archives count
 
 -- the row of the first archive whose entries end after a place
-abbrev pub row_of_place : List OpenedArchive → (place : ℕ) → Option ℕ
-row_of_place [] place = None
-row_of_place (archive ∷ archives) place = if nat_lt place archive.entries.1 then Some archive.row else row_of_place archives place
+abbrev pub row_with_entry : List OpenedArchive → (place : ℕ) → Option ℕ
+row_with_entry [] place = None
+row_with_entry (archive ∷ archives) place = if nat_lt place archive.entries.1 then Some archive.row else row_with_entry archives place
 
 abbrev pub row_of_archive : Option OpenedArchive → Option ℕ
 row_of_archive None = None

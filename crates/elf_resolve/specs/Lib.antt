@@ -26,3 +26,4 @@ pub mod EntryRows
 pub mod LinkTexts
 pub mod KeyLines
 pub mod StaticLinks
+pub mod ShownLinks
