@@ -21,3 +21,4 @@ pub mod EntryRowLaws
 pub mod ListShownLaws
 pub mod KeyLineLaws
 pub mod KeyShownLaws
+pub mod ShownLaws

@@ -7,7 +7,7 @@ ghost use Rattle.elf_resolve.specs.KeyLines.{lines_found};
 ghost use Rattle.elf_resolve.specs.LinkTexts.{WritesText};
 ghost use Rattle.elf_resolve.specs.LinkerNames.{output_of};
 ghost use Rattle.elf_resolve.specs.Resolved.{linking_of};
-ghost use Rattle.elf_resolve.specs.ShownLinks.{key_if_shown, shown_keys, status_if};
+ghost use Rattle.elf_resolve.specs.ShownLinks.{key_if_shown, shown_keys};
 ghost use Rattle.elf_resolve.specs.StaticLinks.{AreKeysListed};
 
 use crate::key_states::FoundState;
@@ -18,8 +18,8 @@ use elf_format::Render;
 use elf_model::{KeyEntry, KeyState};
 use elf_source::{Out, OutFault, Sink};
 
-/// Writes the lines of the keys that objects have, or only of those that are faults, and returns 1
-/// if one is a fault.
+/// Writes the lines of the keys that objects have, or only of those that are faults, and returns
+/// whether one is a fault.
 ///
 /// # Errors
 /// A fault of the output, with a prefix of the lines written.
@@ -27,24 +27,23 @@ pub(crate) fn show_keys<W: Sink, R: Render>(
     link: &Resolver<'_>,
     problems: bool,
     out: &mut Out<W>,
-) -> Result<u8, OutFault>
+) -> Result<bool, OutFault>
     ensures writes { AreKeysListed link.now →
         let output = output_of link.now.output in
         let made = linking_of link.now in
         WritesText out.old out.new result
         (concat (shown_keys problems R.FORMAT output made made.keys.order)) }
-    ensures status { AreKeysListed link.now →
+    ensures fails { AreKeysListed link.now →
         let output = output_of link.now.output in
         let made = linking_of link.now in
-        IfOk result (λ status.
-        status ≡ status_if (list_any (is_unresolved output made) made.keys.order)) }
+        IfOk result (λ fails. fails ≡ list_any (is_unresolved output made) made.keys.order) }
 {
     let mut fails = false;
     for key in link.link.keys.order() {
         let more = show_if_own::<W, R>(link, *key, problems, out)?;
         fails = either(fails, more);
     }
-    Ok(u8::from(fails))
+    Ok(fails)
 }
 
 /// Writes the lines of a key, if an object has it and they are to be written, and returns whether
@@ -80,7 +79,7 @@ fn show_if_own<W: Sink, R: Render>(
 }
 
 /// Returns `true` if one of two is.
-fn either(first: bool, second: bool) -> bool
+pub(crate) fn either(first: bool, second: bool) -> bool
     ensures { result ≡ (first || second) }
 {
     first || second
