@@ -7,7 +7,7 @@ ghost use Rattle.elf_model.specs.declared.link_states.LinkRow.{LinkRow as Row};
 ghost use Rattle.elf_source.specs.Output.{OutPuts};
 ghost use Rattle.elf_resolve.specs.LinkTexts.{WritesText};
 ghost use Rattle.elf_resolve.specs.MemberNames.{RowsAscend};
-ghost use Rattle.elf_resolve.specs.ShownLinks.{ends_at_row, in_columns, is_refused_kind, is_shown_row, lines_of_row, reason_shown, row_if_shown, row_shown, shown_link, shown_rows, shown_status};
+ghost use Rattle.elf_resolve.specs.ShownLinks.{ends_at_row, in_columns, is_refused_kind, is_shown_row, lines_of_row, reason_shown, row_if_shown, row_shown, shown_link, shown_rows, shown_status, status_if};
 ghost use Rattle.elf_resolve.specs.StaticLinks.{AreKeysListed, AreRowsNamed, IsNameOfRow};
 
 use crate::key_lines::{either, show_keys};
@@ -77,9 +77,16 @@ fn show_all<F: InputFiles, W: Sink, R: Render>(
         }
         None => {
             let fails = show_keys::<W, R>(link, problems, out)?;
-            Ok(u8::from(either(missing, fails)))
+            Ok(status_if(either(missing, fails)))
         }
     }
+}
+
+/// Returns the status, by whether a link fails.
+fn status_if(fails: bool) -> u8
+    ensures { result ≡ status_if fails }
+{
+    if fails { 1 } else { 0 }
 }
 
 /// Writes the lines of the rows, and returns whether a file is missing.
