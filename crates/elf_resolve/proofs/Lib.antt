@@ -22,3 +22,4 @@ pub mod ListShownLaws
 pub mod KeyLineLaws
 pub mod KeyShownLaws
 pub mod ShownLaws
+pub mod LinkTextLaws

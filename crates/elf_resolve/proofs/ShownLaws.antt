@@ -58,7 +58,7 @@ pub same_file : (text : ℕ → Option (List ℕ)) (names : FileNames) (held : L
 same_file text names held end index row shown same named =
     subst (λ (r : LinkRow). IsNameOfRow text names held index r.input r.member) (sym same) (by (ends_at_row end index))
   where
-    by : (is : Bool) → IsNameOfRow text names held index (if is then record row { kind = kind.Refused } else row).input (if is then record row { kind = kind.Refused } else row).member
+    by : (is : Bool) → IsNameOfRow text names held index (if is then record row { kind = kind.Refused; reason = None } else row).input (if is then record row { kind = kind.Refused; reason = None } else row).member
     by true = named
     by false = named
 

@@ -34,7 +34,7 @@ shown_keys problems format output link (key ∷ keys) =
 abbrev pub status_if : Bool → ℕ
 status_if fails = if fails then 1 else 0
 
--- THE ROWS: that of the file that is refused at the end of a link is
+-- THE ROWS: that of the file that is refused at the end of a link is a refused one
 abbrev pub is_row : Option ℕ → (index : ℕ) → Bool
 is_row None index = false
 is_row (Some row) index = row == index
@@ -44,7 +44,7 @@ ends_at_row None index = false
 ends_at_row (Some end) index = is_row end.row index
 
 abbrev pub row_shown : Option LinkEnd → (index : ℕ) → LinkRow → LinkRow
-row_shown end index row = if ends_at_row end index then record row { kind = kind.Refused } else row
+row_shown end index row = if ends_at_row end index then record row { kind = kind.Refused; reason = None } else row
 
 abbrev pub is_refused_kind : LinkRowKind → Bool
 is_refused_kind kind.Refused = true
@@ -54,9 +54,9 @@ is_refused_kind _ = false
 abbrev pub is_shown_row : (problems : Bool) → (marks : List Bool) → (index : ℕ) → LinkRowKind → Bool
 is_shown_row problems marks index kind = not problems || (is_missing kind || (is_refused_kind kind || get_or marks index false))
 
--- the lines of a row; why a member was taken is left out if only problems are shown
+-- the lines of a row; why a member is taken is left out if only problems are shown
 abbrev pub reason_shown : (problems : Bool) → LinkRow → Option RowReason
-reason_shown problems row = if problems || is_refused_kind row.kind then None else row.reason
+reason_shown problems row = if problems then None else row.reason
 
 abbrev pub lines_of_reason : Format → LinkKeys → (index : ℕ) → Option RowReason → List (List ℕ)
 lines_of_reason format keys index None = []

@@ -196,7 +196,7 @@ fn show_named_row<F: InputFiles, W: Sink, R: Render>(
 fn reason_shown(problems: bool, row: LinkRow) -> Option<RowReason>
     ensures { result ≡ reason_shown problems row }
 {
-    if problems || is_refused(row.kind) {
+    if problems {
         return None;
     }
     row.reason
@@ -223,7 +223,8 @@ fn is_chosen(link: &Resolver<'_>, index: u32, kind: LinkRowKind, problems: bool)
     !problems || is_missing(kind) || is_refused(kind) || link.is_in_problem(index)
 }
 
-/// Returns a row as it is shown, with the kind that it has at the end.
+/// Returns a row as it is shown, with the kind that it has at the end. If its file is refused, it is
+/// not said why that was taken.
 fn shown_row(link: &Resolver<'_>, index: u32, row: LinkRow) -> LinkRow
     ensures { get_or link.now.kinds.items index None ≡ None →
         result ≡ row_shown link.now.end index row }
@@ -231,6 +232,7 @@ fn shown_row(link: &Resolver<'_>, index: u32, row: LinkRow) -> LinkRow
     if ends_at_row(link.end, index) {
         return LinkRow {
             kind: LinkRowKind::Refused,
+            reason: None,
             ..row
         };
     }
