@@ -14,3 +14,11 @@ pub mod StatedLaws
 pub mod LinkerNameLaws
 pub mod StringBufferLaws
 pub mod LinkFaultLaws
+pub mod FaultLaws
+pub mod MemberWalks
+pub mod MemberOffsets
+pub mod MemberPasses
+pub mod IndexLaws
+pub mod EntryNames
+pub mod IndexPasses
+pub mod IndexParts

@@ -12,6 +12,7 @@ mod archives;
 mod asked_libraries;
 mod entry_chains;
 mod examples;
+mod index_parts;
 mod key_chains;
 mod key_marks;
 mod key_states;
