@@ -35,8 +35,8 @@ either_asked true a b same = refl
 either_asked false a b same = same
 
 pub references_asked : (symbol : SymbolUse) (role : SymbolRole) (row : Option ℕ) (entry : KeyEntry) → (references_by symbol role row entry).is_asked ≡ entry.is_asked
-references_asked symbol Reference row entry = either_asked symbol.dropped entry (record entry { reference = first_row entry.reference row }) refl
-references_asked symbol WeakReference row entry = either_asked symbol.dropped entry (record entry { weak_reference = first_row entry.weak_reference row }) refl
+references_asked symbol Reference row entry = either_asked (symbol.dropped || symbol.of_library) entry (record entry { reference = first_row entry.reference row }) refl
+references_asked symbol WeakReference row entry = either_asked (symbol.dropped || symbol.of_library) entry (record entry { weak_reference = first_row entry.weak_reference row }) refl
 references_asked symbol role row entry = refl
 
 pub used_asked : (entry : KeyEntry) (symbol : SymbolUse) (row : Option ℕ) → entry.is_asked ≡ true → (used entry symbol row).is_asked ≡ true

@@ -23,3 +23,11 @@ pub mod KeyLineLaws
 pub mod KeyShownLaws
 pub mod ShownLaws
 pub mod LinkTextLaws
+pub mod FaultLaws
+pub mod MemberWalks
+pub mod MemberOffsets
+pub mod MemberPasses
+pub mod IndexLaws
+pub mod EntryNames
+pub mod IndexPasses
+pub mod IndexParts

@@ -1,7 +1,8 @@
 -- Texts in a buffer: what keeps them, parts of them, and texts that are read, joined or split.
-use Rattle.std.proofs.Common.{◌≡◌, ℕ, ◌+◌, ◌-◌, ◌<◌, ◌≤◌, ◌^◌, ◌==◌, min, Bool, true, false, List, [], ◌∷◌, ◌++◌, length, get_or, take, drop, refl, sym, ap, subst, ◌∙◌, zero-le, arith}
+use Rattle.std.proofs.Common.{◌≡◌, ℕ, ◌+◌, ◌-◌, ◌<◌, ◌≤◌, ◌^◌, ◌==◌, min, Bool, true, false, List, [], ◌∷◌, ◌++◌, length, get_or, take, drop, inl, inr, refl, sym, ap, ◌∙◌, zero-le, arith}
 use Rattle.std.specs.Prelude.{Option, None, Some, Result, Ok, Err}
 use Rattle.std.specs.List.{position, position_or_len}
+use Rattle.std.proofs.lemmas.Bool.{cases_lt}
 use Rattle.std.proofs.lemmas.Bool.Decides.{nat_tests}
 use Rattle.std.proofs.lemmas.List.{append_assoc, drop-drop, drop-take, drop_at, get_or_past, length-append, length-drop, length-take, nil_from_length, take-take, take_all, take_at}
 use Rattle.std.proofs.lemmas.List.Sums.{position_or_len_is}
@@ -159,7 +160,10 @@ holds_read file at size old new text read =
     rw read.bytes (holds_end old.bytes (slice file at size) text read.start sized read.fits)
   where
     slice_whole : (0 < size → at + size ≤ length file) → length (slice file at size) ≡ size
-    slice_whole within = length-take size (drop at file) ∙ omega (arith, length-drop at file, within)
+    slice_whole within = elim (cases_lt 0 size) [
+      | inl some ↦ length-take size (drop at file) ∙ omega (arith, length-drop at file, within some)
+      | inr none ↦ length-take size (drop at file) ∙ omega arith
+    ]
 
 pub holds_joined : (old new : TableTexts) (name version : List ℕ) (text : HeldText) → JoinedTexts old new name version text → HoldsText new.bytes text (name ++ 64 ∷ version)
 holds_joined old new name version text joins = rw joins.bytes (holds_end old.bytes (name ++ 64 ∷ version) text joins.start joins.size_is joins.fits)

@@ -9,6 +9,8 @@ pub mod ExamplesLinks
 pub mod ExamplesFiles
 pub mod LinkMembers
 pub mod MemberExtents
+pub mod MemberWalks
+pub mod ArchiveIndexes
 pub mod Ranges
 pub mod Lines
 pub mod StringBuffers
@@ -27,3 +29,4 @@ pub mod LinkTexts
 pub mod KeyLines
 pub mod StaticLinks
 pub mod ShownLinks
+pub mod ObjectSymbols

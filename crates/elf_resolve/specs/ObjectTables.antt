@@ -1,5 +1,5 @@
 -- The tables of an object in a buffer.
-use Rattle.std.specs.Prelude.{ℕ, ◌≡◌, ◌<◌, List, Option, None, Some}
+use Rattle.std.specs.Prelude.{ℕ, ◌≡◌, ◌+◌, ◌*◌, ◌<◌, ◌≤◌, ◌^◌, List, length, Option, None, Some}
 use Rattle.elf_model.specs.LinkSymbols.{symbol_table_in}
 use Rattle.elf_model.specs.Records.{e_shstrndx, section_at, sh_info, sh_offset}
 use Rattle.elf_model.specs.Tables.{SYMBOL_SIZE, entry_count, section_bytes, strings_of}
@@ -14,6 +14,8 @@ pub record HoldsSymbols (file bytes : List ℕ) (table_at : ℕ) (symbols : Symb
   pub names : 0 < symbols.count → HoldsText bytes symbols.names (strings_of file table_at)
   pub at : symbols.at ≡ sh_offset file table_at
   pub count : symbols.count ≡ entry_count file table_at SYMBOL_SIZE
+  pub whole : SYMBOL_SIZE * symbols.count ≤ length (section_bytes file table_at)
+  pub fits : symbols.at + SYMBOL_SIZE * symbols.count < 2 ^ 64
 
 -- THE SYMBOLS of an object: of its first symbol table, if it has one
 pub record HoldsFirstSymbols (file bytes : List ℕ) (symbols : SymbolRows) : Type 0 where

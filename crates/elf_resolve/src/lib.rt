@@ -13,6 +13,7 @@ mod asked_libraries;
 mod entry_chains;
 mod entry_rows;
 mod examples;
+mod index_parts;
 mod key_chains;
 mod key_lines;
 mod key_marks;

@@ -1,5 +1,7 @@
 //! An object of a link: its headers, its symbol table and its string tables.
-ghost use Rattle.std.specs.Prelude.{◌≡◌, ◌<◌, List, ℕ, Some};
+ghost use Rattle.std.specs.Prelude.{◌≡◌, ◌+◌, ◌*◌, ◌<◌, ◌≤◌, ◌^◌, List, ℕ, Some, IfSome, IsSome, length};
+ghost use Rattle.elf_model.specs.Bytes.{slice};
+ghost use Rattle.elf_record.specs.Sym.{IsSym};
 ghost use Rattle.elf_source.specs.Prelude.{KeepsSource};
 ghost use Rattle.elf_resolve.specs.Taken.{TakesObject};
 
@@ -225,7 +227,11 @@ fn read_symbols<S: Source>(
 }
 
 /// Returns the symbol of an index in the bytes of a table, if there is one.
-pub(crate) fn symbol_in(rows: &[u8], index: u64) -> Option<Sym> {
+pub(crate) fn symbol_in(rows: &[u8], index: u64) -> Option<Sym>
+    ensures found { 24 * index + 24 ≤ length rows.now → IsSome result }
+    ensures is { IfSome result (λ symbol. (file : List ℕ) (at : ℕ) →
+        rows.now ≡ slice file at (length rows.now) → IsSym file (at + 24 * index) symbol) }
+{
     let start = (index as usize).saturating_mul(SYMBOL_BYTES);
     match part_of(rows, start, SYMBOL_BYTES).first_chunk() {
         Some(row) => Some(Sym::decode(row)),
@@ -235,7 +241,9 @@ pub(crate) fn symbol_in(rows: &[u8], index: u64) -> Option<Sym> {
 
 impl SymbolRows {
     /// Returns the file offset of the symbol of an index.
-    pub(crate) fn place(&self, index: u64) -> u64 {
+    pub(crate) fn place(&self, index: u64) -> u64
+        ensures { self.now.at + 24 * index < 2 ^ 64 → result ≡ self.now.at + 24 * index }
+    {
         self.at
             .saturating_add(index.saturating_mul(SYMBOL_BYTES as u64))
     }

@@ -1,4 +1,14 @@
 //! The symbols of an object.
+ghost use Rattle.std.specs.Prelude.{◌≡◌, ◌+◌, ◌*◌, ◌≤◌, ◌==◌, ◌&&◌, ◌||◌, not, true, false, List, ℕ, Some, bytes_eq, length, IfSome, IsSome};
+ghost use Rattle.elf_model.specs.Bytes.{slice};
+ghost use Rattle.elf_model.specs.LinkObjects.{is_dropped};
+ghost use Rattle.elf_model.specs.LinkSymbols.{LTO_MARK, absolute_value, is_common, is_data_definition, is_global, symbol_role, symbol_section, symbol_use};
+ghost use Rattle.elf_model.specs.Numbers.{STT_FUNC, STT_GNU_IFUNC};
+ghost use Rattle.elf_model.specs.Records.{st_type};
+ghost use Rattle.elf_record.specs.Sym.{IsSym};
+ghost use Rattle.elf_resolve.specs.ObjectSymbols.{FindsGlobal, NamesKeys, NamesUse, reference_at, use_if};
+ghost use Rattle.elf_resolve.specs.SectionMarks.{MarksDropped};
+ghost use Rattle.elf_resolve.specs.StringBuffers.{HoldsText, KeptTexts};
 
 use crate::key_marks::KeyMarks;
 use crate::link_faults::{LinkFault, full, refused};
@@ -54,7 +64,10 @@ pub(crate) fn take_symbols(
 }
 
 /// Returns the symbol of an index in the bytes of a table, if it is global, weak or unique.
-pub(crate) fn global_in(rows: &[u8], index: u64) -> Option<Sym> {
+pub(crate) fn global_in(rows: &[u8], index: u64) -> Option<Sym>
+    ensures { 24 * index + 24 ≤ length rows.now → (file : List ℕ) (at : ℕ) →
+        rows.now ≡ slice file at (length rows.now) → FindsGlobal file (at + 24 * index) result }
+{
     let symbol = symbol_in(rows, index)?;
     match symbol.binding() {
         STB_GLOBAL | STB_WEAK | STB_GNU_UNIQUE => Some(symbol),
@@ -121,7 +134,9 @@ fn note_names(
 }
 
 /// Returns `true` if a name is the mark of an object with intermediate code alone.
-pub(crate) fn is_lto_mark(name: &[u8]) -> bool {
+pub(crate) fn is_lto_mark(name: &[u8]) -> bool
+    ensures { result ≡ bytes_eq name.now LTO_MARK }
+{
     name == SLIM_MARK
 }
 
@@ -163,13 +178,22 @@ fn held_bytes(strings: &StringBuffer, text: Option<HeldText>) -> Option<&[u8]> {
 }
 
 /// Returns `true` if a symbol is defined in a section that is dropped.
-fn is_in_dropped(symbol: &Sym, sections: &SectionMarks) -> bool {
+fn is_in_dropped(symbol: &Sym, sections: &SectionMarks) -> bool
+    ensures dropped { (file : List ℕ) (at count : ℕ) (dropped : List ℕ) → IsSym file at symbol.now →
+        MarksDropped count sections.now dropped →
+        result ≡ is_dropped dropped (symbol_section file at) }
+{
     let section = symbol.st_shndx;
     section != SHN_UNDEF && section < SHN_LORESERVE && sections.is_dropped(u32::from(section))
 }
 
 /// Returns how a symbol uses its key; a definition in a dropped section is a reference.
-fn use_of(symbol: &Sym, dropped: bool) -> SymbolUse {
+#[tactic(auto, unfolding(elf_model::specs::LinkSymbols::symbol_role))]
+fn use_of(symbol: &Sym, dropped: bool) -> SymbolUse
+    ensures { (file : List ℕ) (at : ℕ) → IsSym file at symbol.now →
+        (dropped ≡ true → IsSome (symbol_section file at)) →
+        result ≡ use_if dropped (symbol_use file at) }
+{
     let role = if dropped {
         reference_role(symbol)
     } else {
@@ -185,7 +209,10 @@ fn use_of(symbol: &Sym, dropped: bool) -> SymbolUse {
 }
 
 /// Returns the value of an absolute symbol.
-fn absolute_value(symbol: &Sym) -> Option<u64> {
+fn absolute_value(symbol: &Sym) -> Option<u64>
+    ensures { (file : List ℕ) (at : ℕ) → IsSym file at symbol.now →
+        result ≡ absolute_value file at }
+{
     if symbol.st_shndx == SHN_ABS {
         return Some(symbol.st_value);
     }
@@ -193,7 +220,9 @@ fn absolute_value(symbol: &Sym) -> Option<u64> {
 }
 
 /// Returns what a reference is to its key.
-fn reference_role(symbol: &Sym) -> SymbolRole {
+fn reference_role(symbol: &Sym) -> SymbolRole
+    ensures { (file : List ℕ) (at : ℕ) → IsSym file at symbol.now → result ≡ reference_at file at }
+{
     if symbol.binding() == STB_WEAK {
         return SymbolRole::WeakReference;
     }
@@ -201,7 +230,10 @@ fn reference_role(symbol: &Sym) -> SymbolRole {
 }
 
 /// Returns what a symbol is to its key.
-fn role_of(symbol: &Sym) -> SymbolRole {
+#[tactic(auto, unfolding(elf_model::specs::LinkSymbols::symbol_role))]
+fn role_of(symbol: &Sym) -> SymbolRole
+    ensures { (file : List ℕ) (at : ℕ) → IsSym file at symbol.now → result ≡ symbol_role file at }
+{
     if symbol.st_shndx == SHN_UNDEF {
         return reference_role(symbol);
     }
@@ -215,12 +247,17 @@ fn role_of(symbol: &Sym) -> SymbolRole {
 }
 
 /// Returns `true` if a symbol is a common.
-fn is_common(symbol: &Sym) -> bool {
+fn is_common(symbol: &Sym) -> bool
+    ensures { (file : List ℕ) (at : ℕ) → IsSym file at symbol.now → result ≡ is_common file at }
+{
     symbol.st_shndx == SHN_COMMON || symbol.st_shndx == SHN_X86_64_LCOMMON
 }
 
 /// Returns `true` if a symbol is a definition, not weak and no function.
-pub(crate) fn is_data_definition(symbol: &Sym) -> bool {
+pub(crate) fn is_data_definition(symbol: &Sym) -> bool
+    ensures { (file : List ℕ) (at : ℕ) → IsSym file at symbol.now →
+        result ≡ is_data_definition file at }
+{
     symbol.binding() != STB_WEAK
         && symbol.st_shndx != SHN_UNDEF
         && !is_common(symbol)
@@ -228,7 +265,10 @@ pub(crate) fn is_data_definition(symbol: &Sym) -> bool {
 }
 
 /// Returns `true` if a symbol is a function, or one that is found by a call.
-pub(crate) fn is_function(symbol: &Sym) -> bool {
+pub(crate) fn is_function(symbol: &Sym) -> bool
+    ensures { (file : List ℕ) (at : ℕ) → IsSym file at symbol.now →
+        result ≡ (st_type file at == STT_FUNC || st_type file at == STT_GNU_IFUNC) }
+{
     symbol.kind() == STT_FUNC || symbol.kind() == STT_GNU_IFUNC
 }
 
@@ -242,7 +282,11 @@ fn key_names(
     name: HeldText,
     role: SymbolRole,
     at: u64,
-) -> Result<(HeldText, Option<HeldText>), LinkFault> {
+) -> Result<(HeldText, Option<HeldText>), LinkFault>
+    ensures stays { KeptTexts strings.old strings.new }
+    ensures names { (is : List ℕ) → HoldsText strings.old.bytes name is →
+        NamesKeys strings.new.bytes is role result }
+{
     let Some((base, version)) = split_version(strings.bytes(name), name) else {
         return Ok((name, None));
     };

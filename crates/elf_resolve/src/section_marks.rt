@@ -1,6 +1,6 @@
 //! Which sections of an object are dropped.
-ghost use Rattle.std.specs.Prelude.{◌≡◌, ◌++◌, ℕ, List, [], ◌∷◌, false, IfOk, slice_index_or, slice_set, true};
-ghost use Rattle.elf_resolve.specs.SectionMarks.{MarksDropped};
+ghost use Rattle.std.specs.Prelude.{◌≡◌, ◌++◌, ◌<◌, ℕ, List, [], ◌∷◌, false, IfOk, length, slice_index_or};
+ghost use Rattle.elf_resolve.specs.SectionMarks.{MarksAlso, MarksDropped};
 
 use std::alloc::{AllocError, Global};
 use std::marker::Model;
@@ -44,22 +44,30 @@ impl SectionMarks {
         self.marks.resize(count as usize, false).unwrap();
     }
 
-    /// Sets a mark; an index of no section is ignored.
-    fn set(&mut self, section: u32, dropped: bool)
-        ensures { self.new ≡ slice_set self.old section dropped }
-    {
-        if let Some(mark) = self.marks.get_mut(section as usize) {
-            *mark = dropped;
-        }
-    }
-
-    /// Marks a section as dropped; an index of no section is ignored.
+    /// Marks a section as dropped, also one that the object does not have; an index from 65,535 on,
+    /// which no symbol has, is ignored.
     pub(crate) fn drop_section(&mut self, section: u32)
-        ensures value { self.new ≡ slice_set self.old section true }
+        ensures value { MarksAlso self.old self.new section }
         ensures drops { (count : ℕ) (sections : List ℕ) → MarksDropped count self.old sections →
             MarksDropped count self.new (sections ++ section ∷ []) }
     {
-        self.set(section, true);
+        let index = section as usize;
+        if index >= MOST_SECTIONS {
+            return;
+        }
+        self.reach(index);
+        self.marks[index] = true;
+    }
+
+    /// Adds marks up to an index.
+    fn reach(&mut self, index: usize)
+        requires { index < 65535 }
+        ensures within { index < length self.new }
+        ensures same { (i : ℕ) → slice_index_or self.new i false ≡ slice_index_or self.old i false }
+    {
+        if self.marks.len() <= index {
+            self.marks.resize(index + 1, false).unwrap();
+        }
     }
 
     /// Returns `true` if a section is dropped.

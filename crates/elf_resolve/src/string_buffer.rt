@@ -201,11 +201,13 @@ fn end_within(start: usize, size: u64, most: usize) -> Option<usize>
 pub(crate) fn part_of(bytes: &[u8], start: usize, size: usize) -> &[u8]
     ensures held { start + size ≤ length bytes.now → result.now ≡ slice bytes.now start size }
     ensures none { length bytes.now < start + size → result.now ≡ [] }
+    ensures fits { length bytes.now < 2 ^ 64 }
 {
-    match after(bytes, start).split_at_checked(size) {
-        Some((part, _)) => part,
-        None => b"",
+    let used = bytes.len();
+    if start > used || size > used - start {
+        return b"";
     }
+    &bytes[start..start + size]
 }
 
 /// Returns the bytes from an index on; none past the end.
