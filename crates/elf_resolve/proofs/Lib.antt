@@ -31,3 +31,7 @@ pub mod IndexLaws
 pub mod EntryNames
 pub mod IndexPasses
 pub mod IndexParts
+pub mod ObjectSymbolLaws
+pub mod ObjectLaws
+pub mod ObjectNameLaws
+pub mod ObjectRefusals

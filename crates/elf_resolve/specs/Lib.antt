@@ -30,3 +30,5 @@ pub mod KeyLines
 pub mod StaticLinks
 pub mod ShownLinks
 pub mod ObjectSymbols
+pub mod ObjectParts
+pub mod ObjectNames
