@@ -35,3 +35,10 @@ pub mod ObjectSymbolLaws
 pub mod ObjectLaws
 pub mod ObjectNameLaws
 pub mod ObjectRefusals
+pub mod SectionGroupLaws
+pub mod SectionNameLaws
+pub mod FollowedLaws
+pub mod GroupTakenLaws
+pub mod GroupFoundLaws
+pub mod SectionTakenLaws
+pub mod LinkedSymbolLaws

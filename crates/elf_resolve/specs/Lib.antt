@@ -32,3 +32,4 @@ pub mod ShownLinks
 pub mod ObjectSymbols
 pub mod ObjectParts
 pub mod ObjectNames
+pub mod SectionGroups
