@@ -1,8 +1,12 @@
 //! The archives of a link: their members, and the entries of their indexes.
-ghost use Rattle.std.specs.Prelude.{◌≡◌, IfOk, List, ℕ, Some};
+ghost use Rattle.std.specs.Prelude.{◌≡◌, ◌<◌, ◌^◌, IfOk, List, ℕ, Some, drop, length, map};
+ghost use Rattle.std.specs.List.Sorted.{IsStrictlyIncreasing};
+ghost use Rattle.elf_archive.specs.Members.{extent_of, extent_of_names, names_passed};
+ghost use Rattle.elf_model.specs.LinkArchives.{LinkMember, link_member_at};
 ghost use Rattle.elf_source.specs.Prelude.{KeepsSource};
-ghost use Rattle.elf_resolve.specs.Taken.{WalksMembers};
-ghost use Rattle.elf_resolve.specs.MemberExtents.{LiesAfterHeader};
+ghost use Rattle.elf_resolve.specs.Taken.{WalksMembers, header_of};
+ghost use Rattle.elf_resolve.specs.MemberExtents.{LiesAfterHeader, ReadsHeader};
+ghost use Rattle.elf_resolve.specs.MemberWalks.{AddsElement, PassesMembers};
 
 use crate::link_faults::{LinkFault, refused};
 use elf_archive::{
@@ -76,17 +80,30 @@ impl ArchiveTables {
             WalksMembers file self.old.members.items self.new.members.items result }
     {
         read_archive_magic(src)?;
+        self.pass_members(src)
+    }
+
+    /// Reads the headers of the members, and adds the members. Returns the data of the table of
+    /// names, if there is one.
+    ///
+    /// # Errors
+    /// Those of the members; `TooManyRows` at a member that there is no room for.
+    fn pass_members<S: Source>(
+        &mut self,
+        src: &mut Counted<S>,
+    ) -> Result<Option<FileRange>, LinkFault>
+        ensures keeps { KeepsSource src.old.seen src.new.seen }
+        ensures archives { self.new.archives ≡ self.old.archives }
+        ensures entries { self.new.entries ≡ self.old.entries }
+        ensures passes { (file : List ℕ) → src.old.seen.file ≡ Some file → length file < 2 ^ 63 →
+            PassesMembers file self.old.members.items self.new.members.items result }
+    {
         let mut at = MAGIC_BYTES;
         let mut names = None;
-        for _ in 0..src.length() {
-            if at >= src.length() {
-                break;
-            }
+        while at < src.length() {
             let mut header = [0; MEMBER_HEADER_BYTES];
             let extent = read_header_at(src, at, &mut header)?;
-            if names.is_none() && is_name_table(&header) {
-                names = Some(extent);
-            }
+            names = first_table(names, &header, extent);
             self.add_member(at)?;
             at = padded_end(at, extent.at + extent.size);
         }
@@ -97,11 +114,14 @@ impl ArchiveTables {
     ///
     /// # Errors
     /// `TooManyRows` there if there is no room for it.
-    fn add_member(&mut self, at: u64) -> Result<(), LinkFault> {
-        if self.members.len() >= self.most {
+    fn add_member(&mut self, at: u64) -> Result<(), LinkFault>
+        ensures archives { self.new.archives ≡ self.old.archives }
+        ensures entries { self.new.entries ≡ self.old.entries }
+        ensures adds { AddsElement self.old.members.items self.new.members.items at at result }
+    {
+        if self.members.len() >= self.most || self.members.push(at).is_err() {
             return refused(at, LinkCause::TooManyRows);
         }
-        let _ = self.members.push(at);
         Ok(())
     }
 
@@ -109,12 +129,31 @@ impl ArchiveTables {
     ///
     /// # Errors
     /// `TooManyRows` there if there is no room for it.
-    pub(crate) fn add_entry(&mut self, entry: IndexEntry, at: u64) -> Result<(), LinkFault> {
-        if self.entries.len() >= self.most {
+    pub(crate) fn add_entry(&mut self, entry: IndexEntry, at: u64) -> Result<(), LinkFault>
+        ensures archives { self.new.archives ≡ self.old.archives }
+        ensures members { self.new.members ≡ self.old.members }
+        ensures adds { AddsElement self.old.entries.items self.new.entries.items entry at result }
+    {
+        if self.entries.len() >= self.most || self.entries.push(entry).is_err() {
             return refused(at, LinkCause::TooManyRows);
         }
-        let _ = self.entries.push(entry);
         Ok(())
+    }
+}
+
+/// Returns the data of the table of names after a member: the first one decides.
+fn first_table(
+    names: Option<FileRange>,
+    header: &[u8; MEMBER_HEADER_BYTES],
+    extent: FileRange,
+) -> Option<FileRange>
+    ensures { extent_of_names result
+        ≡ names_passed (extent_of_names names) header.now (extent_of extent) }
+{
+    match names {
+        Some(table) => Some(table),
+        None if is_name_table(header) => Some(extent),
+        None => None,
     }
 }
 
@@ -127,7 +166,10 @@ pub(crate) fn read_header_at<S: Source>(
     at: u64,
     header: &mut [u8; MEMBER_HEADER_BYTES],
 ) -> Result<FileRange, LinkFault>
-    ensures { IfOk result (λ extent. LiesAfterHeader at extent.at extent.size) }
+    ensures lies { IfOk result (λ extent. LiesAfterHeader at extent.at extent.size) }
+    ensures keeps { KeepsSource src.old.seen src.new.seen }
+    ensures reads { (file : List ℕ) → src.old.seen.file ≡ Some file →
+        ReadsHeader file at header.new result }
 {
     let length = src.length();
     if length >= 1 << 63 || at >= length {
@@ -140,7 +182,12 @@ pub(crate) fn read_header_at<S: Source>(
 }
 
 /// Returns the refusal of a member that does not lie within its file, at a file offset.
-pub(crate) fn member_cut(at: u64) -> LinkFault {
+pub(crate) fn member_cut(at: u64) -> LinkFault
+    ensures { result ≡ LinkFault.Refused (record {
+      at = at;
+      cause = LinkCause.Refused Cause.MemberCut;
+    }) }
+{
     LinkFault::Refused(LinkRefusal {
         at,
         cause: LinkCause::Refused(Cause::MemberCut),
@@ -148,7 +195,9 @@ pub(crate) fn member_cut(at: u64) -> LinkFault {
 }
 
 /// Returns the members from an index on.
-pub(crate) fn members_from(members: &[u64], first: usize) -> &[u64] {
+pub(crate) fn members_from(members: &[u64], first: usize) -> &[u64]
+    ensures { result.now ≡ drop first members.now }
+{
     match members.split_at_checked(first) {
         Some((_, rest)) => rest,
         None => &[],
@@ -162,43 +211,9 @@ fn middle_of(low: usize, high: usize) -> usize {
 
 /// Returns the index of the member whose header is at an offset, of members in the order of their
 /// offsets.
-pub(crate) fn member_with_header(members: &[u64], offset: u64) -> Option<u32> {
-    let mut low = 0;
-    let mut high = members.len();
-    for _ in 0..64 {
-        if low >= high {
-            break;
-        }
-        let middle = middle_of(low, high);
-        match members.get(middle) {
-            Some(at) if *at < offset => low = middle.saturating_add(1),
-            _ => high = middle,
-        }
-    }
-    match members.get(low) {
-        Some(at) if *at == offset => u32::try_from(low).ok(),
-        _ => None,
-    }
-}
-
-impl ArchiveTables {
-    /// Returns the row of the archive that has an entry.
-    pub(crate) fn row_of_entry(&self, entry: usize) -> Option<u32> {
-        let mut low = 0;
-        let mut high = self.archives.len();
-        for _ in 0..64 {
-            if low >= high {
-                break;
-            }
-            let middle = middle_of(low, high);
-            match self.archives.get(middle) {
-                Some(archive) if archive.entries.1 <= entry => low = middle.saturating_add(1),
-                _ => high = middle,
-            }
-        }
-        match self.archives.get(low) {
-            Some(archive) => Some(archive.row),
-            None => None,
-        }
-    }
+pub(crate) fn member_with_header(members: &[u64], offset: u64) -> Option<usize>
+    ensures { (known : List LinkMember) → members.now ≡ map header_of known →
+        IsStrictlyIncreasing members.now → link_member_at known offset ≡ result }
+{
+    members.binary_search(&offset).ok()
 }

@@ -1,4 +1,10 @@
 //! What a link says of a key.
+ghost use Rattle.std.specs.Prelude.{◌≡◌, [], get_or};
+ghost use Rattle.elf_model.specs.LinkLines.{linker_defines};
+ghost use Rattle.elf_resolve.specs.FoundStates.{found_word, has_offer_lines, is_fault_state, is_multiple_state};
+ghost use Rattle.elf_resolve.specs.KeyFinds.{entry_held, state_found, state_undefined};
+ghost use Rattle.elf_resolve.specs.KeyStates.{IsOwnState};
+ghost use Rattle.elf_resolve.specs.LinkerNames.{output_of};
 ghost use Rattle.elf_resolve.specs.Lines.{FitsColumn};
 
 use crate::linker_names::{bounded_section, is_linker_name};
@@ -33,7 +39,8 @@ pub(crate) enum FoundState {
 impl FoundState {
     /// Returns the word for a state in a line.
     pub(crate) fn word(self) -> &'static str
-        ensures { FitsColumn result.now }
+        ensures word { result.now ≡ found_word self }
+        ensures short { FitsColumn result.now }
     {
         match self {
             FoundState::Defined => "defined",
@@ -50,15 +57,26 @@ impl FoundState {
     }
 
     /// Returns `true` if it is a fault of the link.
-    pub(crate) fn is_fault(self) -> bool {
+    pub(crate) fn is_fault(self) -> bool
+        ensures { result ≡ is_fault_state self }
+    {
         matches!(
             self,
             FoundState::Multiple | FoundState::Order | FoundState::Undefined
         )
     }
 
+    /// Returns `true` if objects define the key more than once.
+    pub(crate) fn is_multiple(self) -> bool
+        ensures { result ≡ is_multiple_state self }
+    {
+        matches!(self, FoundState::Multiple)
+    }
+
     /// Returns `true` if lines follow of the archives and libraries that have the key.
-    pub(crate) fn has_offers(self) -> bool {
+    pub(crate) fn has_offers(self) -> bool
+        ensures { result ≡ has_offer_lines self }
+    {
         matches!(
             self,
             FoundState::Order | FoundState::Undefined | FoundState::Weak
@@ -69,7 +87,9 @@ impl FoundState {
 impl Resolver<'_> {
     /// Returns the entry of a key at the end: an object's definition of a name defines its default
     /// version too, though a shared library defines that.
-    pub(crate) fn settled(&self, key: u32) -> KeyEntry {
+    pub(crate) fn settled(&self, key: u32) -> KeyEntry
+        ensures { IsOwnState (entry_held self.now key).state → result ≡ entry_held self.now key }
+    {
         let entry = self.link.keys.entry(key);
         if !matches!(entry.state, KeyState::Shared(_)) {
             return entry;
@@ -89,7 +109,9 @@ impl Resolver<'_> {
     }
 
     /// Returns what the link says of a key, by the entry that [`Resolver::settled`] returns.
-    pub(crate) fn state_of(&self, key: u32, entry: &KeyEntry) -> FoundState {
+    pub(crate) fn state_of(&self, key: u32, entry: &KeyEntry) -> FoundState
+        ensures { result ≡ state_found self.now key entry.now }
+    {
         match entry.state {
             KeyState::Shared(_) => FoundState::Shared,
             KeyState::Defined => {
@@ -100,16 +122,20 @@ impl Resolver<'_> {
             }
             KeyState::WeakDefined => FoundState::WeakDefined,
             KeyState::Common(_) => FoundState::Common,
-            KeyState::New | KeyState::Weak | KeyState::Undefined => self.undefined(key, entry),
+            KeyState::New | KeyState::Weak => self.undefined(key, entry, false),
+            KeyState::Undefined => self.undefined(key, entry, true),
         }
     }
 
-    /// Returns what the link says of a key that no file defines.
-    fn undefined(&self, key: u32, entry: &KeyEntry) -> FoundState {
+    /// Returns what the link says of a key that no file defines, and that is referenced, other than
+    /// weakly, if it is asked for.
+    fn undefined(&self, key: u32, entry: &KeyEntry, is_asked: bool) -> FoundState
+        ensures { result ≡ state_undefined self.now key entry.now is_asked }
+    {
         if self.is_of_linker(key) {
             return FoundState::Linker;
         }
-        if !matches!(entry.state, KeyState::Undefined) {
+        if !is_asked {
             return FoundState::Weak;
         }
         if entry.reference.is_none() && entry.weak_reference.is_none() {
@@ -122,7 +148,10 @@ impl Resolver<'_> {
     }
 
     /// Returns `true` if the linker defines a key.
-    fn is_of_linker(&self, key: u32) -> bool {
+    fn is_of_linker(&self, key: u32) -> bool
+        ensures { result ≡ linker_defines (output_of self.now.output) self.now.link.keys.keys
+            (get_or self.now.link.keys.keys.names key []) }
+    {
         let name = self.link.keys.name(key);
         if is_linker_name(name, self.output) {
             return true;

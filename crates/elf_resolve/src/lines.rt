@@ -1,18 +1,21 @@
 //! The lines of a link.
-ghost use Rattle.std.specs.Prelude.{◌+◌, ◌≤◌, length};
-ghost use Rattle.arrayvec.specs.ArrayVec.{array_vec_len};
-ghost use Rattle.elf_format.specs.Rooms.{text_room};
-ghost use Rattle.elf_resolve.specs.Lines.{FitsColumn};
+ghost use Rattle.std.specs.Prelude.{◌≡◌, ◌||◌, ℕ, None, get_or, IfOk};
+ghost use Rattle.std.specs.List.{concat, list_any};
+ghost use Rattle.elf_model.specs.LinkLines.{FileNames, is_missing, name_of_row, file_front};
+ghost use Rattle.elf_model.specs.Lines.{named_line};
+ghost use Rattle.elf_model.specs.declared.link_states.LinkRow.{LinkRow as Row};
+ghost use Rattle.elf_source.specs.Output.{OutPuts};
+ghost use Rattle.elf_resolve.specs.LinkTexts.{WritesText};
+ghost use Rattle.elf_resolve.specs.MemberNames.{RowsAscend};
+ghost use Rattle.elf_resolve.specs.ShownLinks.{ends_at_row, in_columns, is_refused_kind, is_shown_row, lines_of_row, reason_shown, row_if_shown, row_shown, shown_link, shown_rows, shown_status, status_if};
+ghost use Rattle.elf_resolve.specs.StaticLinks.{AreKeysListed, AreRowsNamed, IsNameOfRow};
 
-use crate::key_states::FoundState;
-use crate::link_faults::link_cause_word;
+use crate::key_lines::{either, show_keys};
 use crate::link_files::InputFiles;
-use crate::resolver::Resolver;
-use elf_format::{
-    Columns, Json, LineBuf, LinePrefix, Render, begin, begin_named, put_closing, put_decimal,
-    put_hex_field, put_name_or_decimal, put_text, show_named,
-};
-use elf_model::{Format, KeyEntry, KeyState, LinkRefusal, LinkRow, LinkRowKind};
+use crate::resolver::{LinkEnd, Resolver};
+use crate::row_lines::{show_file, show_reason, show_refused};
+use elf_format::{Columns, Json, Render};
+use elf_model::{Format, LinkRow, LinkRowKind, RowReason};
 use elf_source::{Out, OutFault, Sink};
 
 /// How lines are written.
@@ -35,7 +38,13 @@ pub fn show_link<F: InputFiles, W: Sink>(
     files: &F,
     style: LinkLines,
     out: &mut Out<W>,
-) -> Result<u8, OutFault> {
+) -> Result<u8, OutFault>
+    ensures writes { (names : FileNames) → (link.now.end ≡ None → AreKeysListed link.now) →
+        AreRowsNamed (F.text files.now) names link.now → WritesText out.old out.new result
+        (concat (shown_link style.problems (in_columns style.format) names link.now)) }
+    ensures status { (link.now.end ≡ None → AreKeysListed link.now) →
+        IfOk result (λ status. status ≡ shown_status link.now link.now.end) }
+{
     match style.format {
         Format::Object => show_all::<F, W, Json>(link, files, style.problems, out),
         Format::Columns | Format::Table => {
@@ -47,311 +56,213 @@ pub fn show_link<F: InputFiles, W: Sink>(
 /// Writes the lines of the rows, and those of the keys or of the refusal.
 ///
 /// # Errors
-/// A fault of the output.
+/// A fault of the output, with a prefix of the lines written.
 fn show_all<F: InputFiles, W: Sink, R: Render>(
     link: &Resolver<'_>,
     files: &F,
     problems: bool,
     out: &mut Out<W>,
-) -> Result<u8, OutFault> {
-    let status = show_rows::<F, W, R>(link, files, problems, out)?;
+) -> Result<u8, OutFault>
+    ensures writes { (names : FileNames) → (link.now.end ≡ None → AreKeysListed link.now) →
+        AreRowsNamed (F.text files.now) names link.now → WritesText out.old out.new result
+        (concat (shown_link problems R.FORMAT names link.now)) }
+    ensures status { (link.now.end ≡ None → AreKeysListed link.now) →
+        IfOk result (λ status. status ≡ shown_status link.now link.now.end) }
+{
+    let missing = show_rows::<F, W, R>(link, files, problems, out)?;
     match link.end {
         Some(end) => {
             show_refused::<W, R>(end.refusal, out)?;
             Ok(1)
         }
         None => {
-            let faults = show_keys::<W, R>(link, problems, out)?;
-            Ok(status.max(faults))
+            let fails = show_keys::<W, R>(link, problems, out)?;
+            Ok(status_if(either(missing, fails)))
         }
     }
 }
 
-/// Writes the lines of the rows, and returns 1 if a file is missing.
+/// Returns the status, by whether a link fails.
+fn status_if(fails: bool) -> u8
+    ensures { result ≡ status_if fails }
+{
+    if fails { 1 } else { 0 }
+}
+
+/// Writes the lines of the rows, and returns whether a file is missing.
 ///
 /// # Errors
-/// A fault of the output.
+/// A fault of the output, with a prefix of the lines written.
 fn show_rows<F: InputFiles, W: Sink, R: Render>(
     link: &Resolver<'_>,
     files: &F,
     problems: bool,
     out: &mut Out<W>,
-) -> Result<u8, OutFault> {
-    let mut status = 0;
-    for (index, row) in link.link.rows.rows().iter().enumerate() {
-        let index = u32::try_from(index).unwrap_or(u32::MAX);
-        let word = row_word(link, index, row);
-        if matches!(row.kind, LinkRowKind::Missing) {
-            status = 1;
-        }
-        if !problems || word == "missing" || word == "refused" || link.is_in_problem(index) {
-            show_row::<F, W, R>(link, files, index, word, !problems, out)?;
-        }
+) -> Result<bool, OutFault>
+    ensures writes { (names : FileNames) → AreRowsNamed (F.text files.now) names link.now →
+        WritesText out.old out.new result
+        (concat (shown_rows problems R.FORMAT names link.now 0 link.now.link.rows.rows)) }
+    ensures missing { IfOk result (λ missing.
+        missing ≡ list_any (λ (row : Row). is_missing row.kind) link.now.link.rows.rows) }
+{
+    let rows = link.link.rows.rows();
+    let mut missing = false;
+    for index in 0..link.link.rows.len() {
+        let row = rows[index as usize];
+        show_if_chosen::<F, W, R>(link, files, index, row, problems, out)?;
+        missing = either(missing, is_missing(row.kind));
     }
-    Ok(status)
+    Ok(missing)
 }
 
-/// Returns the word for the kind of a row.
-fn row_word(link: &Resolver<'_>, index: u32, row: &LinkRow) -> &'static str
-    ensures { FitsColumn result.now }
+/// Writes the lines of a row, if they are to be written.
+///
+/// # Errors
+/// A fault of the output, with a prefix of the lines written.
+fn show_if_chosen<F: InputFiles, W: Sink, R: Render>(
+    link: &Resolver<'_>,
+    files: &F,
+    index: u32,
+    row: LinkRow,
+    problems: bool,
+    out: &mut Out<W>,
+) -> Result<(), OutFault>
+    ensures writes { (names : FileNames) → get_or link.now.kinds.items index None ≡ None →
+        RowsAscend link.now.room.names →
+        IsNameOfRow (F.text files.now) names link.now.room.names index row.input row.member →
+        WritesText out.old out.new result (concat (row_if_shown problems R.FORMAT names link.now
+            index (row_shown link.now.end index row))) }
 {
-    if let Some(end) = link.end {
-        if end.row == Some(index) {
-            return "refused";
-        }
+    let row = shown_row(link, index, row);
+    if !is_chosen(link, index, row.kind, problems) {
+        return Ok(());
     }
-    match link.kind_of(index, row.kind) {
-        LinkRowKind::Object => "object",
-        LinkRowKind::Shared => "shared",
-        LinkRowKind::Unneeded => "unneeded",
-        LinkRowKind::Same => "same",
-        LinkRowKind::Archive => "archive",
-        LinkRowKind::Member => "member",
-        LinkRowKind::Missing => "missing",
-        LinkRowKind::Refused => "refused",
-    }
+    show_row::<F, W, R>(link, files, index, row, problems, out)
 }
 
 /// Writes the line of a row and, if requested, of a member the line of why it was taken.
 ///
 /// # Errors
-/// A fault of the output.
+/// A fault of the output, with a prefix of the lines written.
 fn show_row<F: InputFiles, W: Sink, R: Render>(
     link: &Resolver<'_>,
     files: &F,
     index: u32,
-    word: &'static str,
-    has_reasons: bool,
+    row: LinkRow,
+    problems: bool,
     out: &mut Out<W>,
 ) -> Result<(), OutFault>
-    requires { FitsColumn word.now }
+    ensures writes { (names : FileNames) → RowsAscend link.now.room.names →
+        IsNameOfRow (F.text files.now) names link.now.room.names index row.input row.member →
+        WritesText out.old out.new result
+        (concat (lines_of_row problems R.FORMAT names link.now.link.keys.keys index row)) }
 {
-    let Some(row) = link.link.rows.rows().get(index as usize).copied() else {
-        return Ok(());
-    };
-    let mut front = LinePrefix::new();
-    begin_row::<R>(&mut front, index, word, row);
-    match row.member {
-        Some(_) => {
-            let (path, is_cut) = link.room.names.name(index);
-            show_named(&mut front, path, is_cut, out)?;
-        }
-        None => show_named(&mut front, files.path(row.input), false, out)?,
-    }
-    match row.reason {
-        Some(reason) if has_reasons && word != "refused" => {
+    show_named_row::<F, W, R>(link, files, index, row, out)?;
+    match reason_shown(problems, row) {
+        Some(reason) => {
             let name = link.link.keys.name(reason.key);
             show_reason::<W, R>(index, reason.row, name, out)
         }
-        _ => Ok(()),
+        None => Ok(()),
     }
 }
 
-/// Begins the line of a row, up to its path.
-fn begin_row<R: Render>(front: &mut LinePrefix, index: u32, word: &'static str, row: LinkRow)
-    requires { FitsColumn word.now }
-    ensures { length front.new.key.now ≤ 16 }
-{
-    begin_named::<R>(front, b"I", b"path");
-    let line = &mut front.line;
-    put_decimal::<R>(line, b"index", 5, u64::from(index), b' ');
-    put_text::<R>(line, b"kind", 8, word.as_bytes(), b' ');
-    put_index::<R>(line, b"archive", row.archive);
-    put_index::<R>(line, b"member", row.member);
-}
-
-/// Appends an index, or a hyphen if there is none.
-fn put_index<R: Render>(line: &mut LineBuf, key: &[u8], index: Option<u32>)
-    requires { array_vec_len line.old + text_room (length key.now) 10 ≤ 256 }
-    ensures { array_vec_len line.new ≤ array_vec_len line.old + text_room (length key.now) 10 }
-{
-    match index {
-        Some(index) => put_name_or_decimal::<R>(line, key, 5, None, u64::from(index)),
-        None => put_name_or_decimal::<R>(line, key, 5, Some("-"), 0),
-    }
-}
-
-/// Writes the line of why a member was taken.
+/// Writes the line of a row.
 ///
 /// # Errors
-/// A fault of the output.
-fn show_reason<W: Sink, R: Render>(
-    index: u32,
-    needer: Option<u32>,
-    name: &[u8],
-    out: &mut Out<W>,
-) -> Result<(), OutFault> {
-    let mut front = LinePrefix::new();
-    begin_named::<R>(&mut front, b"W", b"name");
-    put_decimal::<R>(&mut front.line, b"index", 5, u64::from(index), b' ');
-    put_index::<R>(&mut front.line, b"needed_by", needer);
-    show_named(&mut front, name, false, out)
-}
-
-/// Writes the line of a refusal.
-///
-/// # Errors
-/// A fault of the output.
-fn show_refused<W: Sink, R: Render>(
-    refusal: LinkRefusal,
-    out: &mut Out<W>,
-) -> Result<(), OutFault> {
-    let mut line = LineBuf::new();
-    begin::<R>(&mut line, b"!");
-    put_hex_field::<R>(&mut line, b"place", 16, 16, refusal.at, b' ');
-    let word = link_cause_word(refusal.cause).as_bytes();
-    put_text::<R>(&mut line, b"cause", 0, word, b'\n');
-    put_closing::<R>(&mut line);
-    out.put(&line)
-}
-
-/// Writes the lines of the keys that objects have, and returns 1 if one is a fault.
-///
-/// # Errors
-/// A fault of the output.
-fn show_keys<W: Sink, R: Render>(
+/// A fault of the output, with a prefix of the line written.
+fn show_named_row<F: InputFiles, W: Sink, R: Render>(
     link: &Resolver<'_>,
-    problems: bool,
+    files: &F,
+    index: u32,
+    row: LinkRow,
     out: &mut Out<W>,
-) -> Result<u8, OutFault> {
-    let mut status = 0;
-    for key in link.link.keys.order() {
-        let entry = link.settled(*key);
-        if entry.is_own {
-            let state = link.state_of(*key, &entry);
-            if state.is_fault() {
-                status = 1;
-            }
-            if !problems || state.is_fault() {
-                show_key::<W, R>(link, *key, &entry, state, out)?;
-            }
+) -> Result<(), OutFault>
+    ensures puts { (names : FileNames) → RowsAscend link.now.room.names →
+        IsNameOfRow (F.text files.now) names link.now.room.names index row.input row.member →
+        OutPuts out.old out.new result
+        (named_line (file_front R.FORMAT index row) (name_of_row names row.input row.member)) }
+{
+    match row.member {
+        Some(_) => {
+            let (path, is_cut) = link.room.names.name(index);
+            show_file::<W, R>(index, row, path, is_cut, out)
+        }
+        None => show_file::<W, R>(index, row, files.path(row.input), false, out),
+    }
+}
+
+/// Returns why the line of a row says that its file was taken, if it says it.
+fn reason_shown(problems: bool, row: LinkRow) -> Option<RowReason>
+    ensures { result ≡ reason_shown problems row }
+{
+    if problems {
+        return None;
+    }
+    row.reason
+}
+
+/// Returns `true` if a kind is that of a file that is refused.
+fn is_refused(kind: LinkRowKind) -> bool
+    ensures { result ≡ is_refused_kind kind }
+{
+    matches!(kind, LinkRowKind::Refused)
+}
+
+/// Returns `true` if a kind is that of a file that is missing.
+fn is_missing(kind: LinkRowKind) -> bool
+    ensures { result ≡ is_missing kind }
+{
+    matches!(kind, LinkRowKind::Missing)
+}
+
+/// Returns `true` if the lines of a row are to be written.
+fn is_chosen(link: &Resolver<'_>, index: u32, kind: LinkRowKind, problems: bool) -> bool
+    ensures { result ≡ is_shown_row problems link.now.problems.items index kind }
+{
+    !problems || is_missing(kind) || is_refused(kind) || link.is_in_problem(index)
+}
+
+/// Returns a row as it is shown, with the kind that it has at the end. If its file is refused, it is
+/// not said why that was taken.
+fn shown_row(link: &Resolver<'_>, index: u32, row: LinkRow) -> LinkRow
+    ensures { get_or link.now.kinds.items index None ≡ None →
+        result ≡ row_shown link.now.end index row }
+{
+    if ends_at_row(link.end, index) {
+        return LinkRow {
+            kind: LinkRowKind::Refused,
+            reason: None,
+            ..row
+        };
+    }
+    LinkRow {
+        kind: link.kind_of(index, row.kind),
+        ..row
+    }
+}
+
+/// Returns `true` if a link ended early at a row.
+fn ends_at_row(end: Option<LinkEnd>, index: u32) -> bool
+    ensures { result ≡ ends_at_row end index }
+{
+    match end {
+        Some(end) => match end.row {
+            Some(row) => row == index,
+            None => false,
+        },
+        None => false,
+    }
+}
+
+impl Resolver<'_> {
+    /// Returns the kind of a row, which was added with another or with this one.
+    pub(crate) fn kind_of(&self, row: u32, first: LinkRowKind) -> LinkRowKind
+        ensures { get_or self.now.kinds.items row None ≡ None → result ≡ first }
+    {
+        match self.kinds.get(row as usize) {
+            Some(Some(kind)) => *kind,
+            _ => first,
         }
     }
-    Ok(status)
-}
-
-/// Writes the line of a key, those of its further definitions, and those of the archives that have
-/// it.
-///
-/// # Errors
-/// A fault of the output.
-fn show_key<W: Sink, R: Render>(
-    link: &Resolver<'_>,
-    key: u32,
-    entry: &KeyEntry,
-    state: FoundState,
-    out: &mut Out<W>,
-) -> Result<(), OutFault> {
-    let name = link.link.keys.name(key);
-    let referrer = match entry.reference {
-        Some(row) => Some(row),
-        None => entry.weak_reference,
-    };
-    let mut front = LinePrefix::new();
-    begin_named::<R>(&mut front, b"G", b"name");
-    let word = state.word().as_bytes();
-    put_text::<R>(&mut front.line, b"state", 8, word, b' ');
-    put_index::<R>(&mut front.line, b"definer", definer(entry));
-    put_index::<R>(&mut front.line, b"referrer", referrer);
-    show_named(&mut front, name, false, out)?;
-    if state == FoundState::Multiple {
-        show_further::<W, R>(link, key, name, out)?;
-    }
-    if state.has_offers() {
-        show_offers::<W, R>(link, key, name, out)?;
-        show_spare::<W, R>(link, key, name, out)?;
-    }
-    Ok(())
-}
-
-/// Returns the row of the file that defines a key.
-fn definer(entry: &KeyEntry) -> Option<u32> {
-    match entry.state {
-        KeyState::New | KeyState::Weak | KeyState::Undefined => None,
-        _ => entry.row,
-    }
-}
-
-/// Writes the lines of the further definitions of a key.
-///
-/// # Errors
-/// A fault of the output.
-fn show_further<W: Sink, R: Render>(
-    link: &Resolver<'_>,
-    key: u32,
-    name: &[u8],
-    out: &mut Out<W>,
-) -> Result<(), OutFault> {
-    let mut next = link.further.first(key);
-    for _ in 0..link.further.most() {
-        let Some(place) = next else {
-            break;
-        };
-        let row = match link.link.keys.further().get(place) {
-            Some(further) => further.row,
-            None => None,
-        };
-        let mut front = LinePrefix::new();
-        begin_named::<R>(&mut front, b"M", b"name");
-        put_index::<R>(&mut front.line, b"index", row);
-        show_named(&mut front, name, false, out)?;
-        next = link.further.after(place);
-    }
-    Ok(())
-}
-
-/// Writes the lines of the members of archives whose index has a key.
-///
-/// # Errors
-/// A fault of the output.
-fn show_offers<W: Sink, R: Render>(
-    link: &Resolver<'_>,
-    key: u32,
-    name: &[u8],
-    out: &mut Out<W>,
-) -> Result<(), OutFault> {
-    let mut next = link.offers.first(key);
-    for _ in 0..link.offers.most() {
-        let Some(place) = next else {
-            break;
-        };
-        let member = match link.tables.entries.get(place / 2) {
-            Some(entry) => Some(entry.member),
-            None => None,
-        };
-        let row = link.tables.row_of_entry(place / 2);
-        let mut front = LinePrefix::new();
-        begin_named::<R>(&mut front, b"O", b"name");
-        put_index::<R>(&mut front.line, b"index", row);
-        put_index::<R>(&mut front.line, b"member", member);
-        show_named(&mut front, name, false, out)?;
-        next = link.offers.after(place);
-    }
-    Ok(())
-}
-
-/// Writes the lines of the libraries that are not needed and define a key.
-///
-/// # Errors
-/// A fault of the output.
-fn show_spare<W: Sink, R: Render>(
-    link: &Resolver<'_>,
-    key: u32,
-    name: &[u8],
-    out: &mut Out<W>,
-) -> Result<(), OutFault> {
-    let mut next = link.spare.first(key);
-    for _ in 0..link.spare.most() {
-        let Some(place) = next else {
-            break;
-        };
-        let row = link.spare.row(place);
-        let mut front = LinePrefix::new();
-        begin_named::<R>(&mut front, b"O", b"name");
-        put_index::<R>(&mut front.line, b"index", row);
-        put_index::<R>(&mut front.line, b"member", None);
-        show_named(&mut front, name, false, out)?;
-        next = link.spare.after(place);
-    }
-    Ok(())
 }

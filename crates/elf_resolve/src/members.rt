@@ -11,7 +11,7 @@ ghost use Rattle.elf_resolve.specs.ObjectTables.{HoldsSymbols, HoldsTables};
 ghost use Rattle.elf_resolve.specs.StringBuffers.{HoldsText};
 ghost use Rattle.elf_resolve.specs.Taken.{FindsDefinition, IsLimit, IsLinkFault};
 
-use crate::archive_index::{INDEX_32, INDEX_64};
+use crate::archive_index::is_index;
 use crate::archives::{OpenedArchive, member_cut, read_header_at};
 use crate::link_faults::{LinkFault, in_member};
 use crate::object::{ObjectTables, SymbolRows, linked_header, read_tables, take_object};
@@ -20,15 +20,12 @@ use crate::passes::ArchiveObjects;
 use crate::room::{LinkRoom, reach_slots, slots_for};
 use crate::string_buffer::{HeldText, StringBuffer, after};
 use crate::table::{KeyTable, LinkStop};
-use elf_archive::{FileRange, MEMBER_HEADER_BYTES};
+use elf_archive::{FileRange, MEMBER_HEADER_BYTES, is_name_table};
 use elf_model::{IndexEntry, LinkCause};
 use elf_record::numbers::ET_REL;
 use elf_record::{Cause, Sym};
 use elf_source::{Counted, RangeSource, Source};
 use elf_table::{HeaderStore, SectionView, load};
-
-/// The name field of the table of names.
-const NAMES: &[u8; 16] = b"//              ";
 
 /// The members of an archive whose file is open.
 #[derive(Drop)]
@@ -84,7 +81,7 @@ pub(crate) fn is_file<S: Source>(
 
 /// Returns `true` if a header is that of an index or of the table of names.
 fn is_no_file(header: &[u8; MEMBER_HEADER_BYTES]) -> bool {
-    header.starts_with(INDEX_32) || header.starts_with(NAMES) || header.starts_with(INDEX_64)
+    is_index(header) || is_name_table(header)
 }
 
 impl<S: Source> MembersOfArchive<'_, S> {

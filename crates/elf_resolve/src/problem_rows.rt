@@ -1,10 +1,13 @@
 //! The rows of files that the faults of a link name.
+ghost use Rattle.std.specs.Prelude.{◌≡◌, false, get_or};
 
 use crate::resolver::Resolver;
 
 impl Resolver<'_> {
     /// Marks the rows that the lines of faults name.
-    pub(crate) fn mark_problems(&mut self) {
+    pub(crate) fn mark_problems(&mut self)
+        ensures same { self.new ≡ record self.old { problems = self.new.problems } }
+    {
         for place in 0..self.link.keys.order().len() {
             let key = match self.link.keys.order().get(place) {
                 Some(key) => *key,
@@ -85,7 +88,9 @@ impl Resolver<'_> {
     }
 
     /// Returns `true` if a line of a fault names a row.
-    pub(crate) fn is_in_problem(&self, row: u32) -> bool {
+    pub(crate) fn is_in_problem(&self, row: u32) -> bool
+        ensures { result ≡ get_or self.now.problems.items row false }
+    {
         match self.problems.get(row as usize) {
             Some(mark) => *mark,
             None => false,

@@ -383,12 +383,4 @@ impl<'a> Resolver<'a> {
             *place = Some(kind);
         }
     }
-
-    /// Returns the kind of a row, which was added with another or with this one.
-    pub(crate) fn kind_of(&self, row: u32, first: LinkRowKind) -> LinkRowKind {
-        match self.kinds.get(row as usize) {
-            Some(Some(kind)) => *kind,
-            _ => first,
-        }
-    }
 }

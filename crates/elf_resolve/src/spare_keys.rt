@@ -1,4 +1,6 @@
 //! The keys that shared libraries have which are not needed.
+ghost use Rattle.std.specs.Prelude.{◌≡◌};
+ghost use Rattle.elf_resolve.specs.KeyChains.{first_number};
 
 use crate::key_chains::KeyChains;
 use crate::link_faults::{LinkFault, refused};
@@ -43,7 +45,9 @@ impl SpareKeys {
     }
 
     /// Returns the place of the first row of a key.
-    pub(crate) fn first(&self, key: u32) -> Option<usize> {
+    pub(crate) fn first(&self, key: u32) -> Option<usize>
+        ensures { result ≡ first_number self.now.chains key }
+    {
         self.chains.first(key)
     }
 
