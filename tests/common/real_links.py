@@ -221,9 +221,9 @@ def found_by(compiler, name):
         return ""
 
 
-def words_of(command):
-    """The words of the linker that a compiler calls, without its plugin and its output; none if it calls none."""
-    told = subprocess.run([command[0], "-###", *command[1:]], stderr=subprocess.PIPE, text=True, check=False, env=PLAIN).stderr
+def words_of(command, folder=None):
+    """The words of the linker that a compiler calls in a directory, without its plugin and its output; none if it calls none."""
+    told = subprocess.run([command[0], "-###", *command[1:]], cwd=folder, stderr=subprocess.PIPE, text=True, check=False, env=PLAIN).stderr
     lines = [line for line in told.splitlines() if "collect2" in line and line.startswith(" ")]
     words, kept = shlex.split(lines[-1])[1:] if lines else [], []
     while words:
