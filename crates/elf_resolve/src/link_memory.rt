@@ -4,12 +4,12 @@ use crate::archives::ArchiveTables;
 use crate::key_chains::KeyChains;
 use crate::libraries::LibraryList;
 use crate::passes::Link;
-use crate::resolver::{InputState, OpenGroup};
+use crate::resolver::{InputState, OpenGroup, Resolver};
 use crate::room::LinkCaps;
 use crate::rows::RowTable;
 use crate::spare_keys::SpareKeys;
 use crate::table::KeyTable;
-use elf_model::LinkRowKind;
+use elf_model::{LinkCause, LinkRowKind};
 use std::alloc::{AllocError, Global};
 use std::hash::RandomState;
 
@@ -104,5 +104,15 @@ impl StepStates {
             states: vec![in alloc; InputState::New; steps]?,
             groups: Vec::with_capacity(alloc, steps)?,
         })
+    }
+}
+
+impl Resolver<'_> {
+    /// Returns `true` if the link ended for lack of room for keys or their bytes.
+    pub fn lacks_keys(&self) -> bool {
+        match self.end {
+            Some(end) => matches!(end.refusal.cause, LinkCause::TooManyKeys),
+            None => false,
+        }
     }
 }

@@ -27,6 +27,10 @@ const MOST_ENTRIES: u32 = 262_144;
 
 const MOST_ROWS: u32 = 16_384;
 
+/// How many bytes of names are allocated at first. All of them are set to zero, which takes longer
+/// than most links for as many as are allowed.
+const FIRST_BYTES: u32 = 1_048_576;
+
 /// Prints where a linker would take the symbols of a link from.
 ///
 /// # Errors
@@ -133,37 +137,103 @@ where
     let Ok(plan) = files.find_all(alloc, words) else {
         return Err(LinkFailure::Memory);
     };
-    resolve_plan(alloc, asked, hasher, words, &mut files, &plan, output)
+    let job = LinkJob {
+        alloc,
+        hasher,
+        caps: caps_of(asked),
+        style: lines_of(asked),
+        words,
+        plan: &plan,
+    };
+    resolve_job(&job, &mut files, output)
 }
 
-/// Allocates the memory of a link, takes its inputs, and writes its lines. Returns the status.
+/// A link whose inputs are found.
+#[derive(Clone, Copy)]
+struct LinkJob<'j, 'w> {
+    alloc: Global,
+    hasher: RandomState,
+    caps: LinkCaps,
+    style: LinkLines,
+    words: &'j LinkerWords<'w>,
+    plan: &'j LinkPlan,
+}
+
+/// What a link with memory for some bytes of names has led to.
+#[derive(Drop)]
+enum LinkAttempt<W: Write + Drop> {
+    /// Its lines were written, with this status.
+    Answered(u8),
+    /// There was no room for the names, and nothing was written.
+    Full(BufWriter<W>),
+}
+
+/// Resolves a link and writes its lines, with memory for few names and, if that is not enough, once
+/// more with memory for as many as are allowed. Returns the status.
 ///
 /// # Errors
 /// Out of memory, a file cannot be opened or read, or the output cannot be written.
-fn resolve_plan<F: InputFiles, W: Write + Drop>(
-    alloc: Global,
-    asked: &CommandArgs<'_>,
-    hasher: RandomState,
-    words: &LinkerWords<'_>,
+fn resolve_job<F: InputFiles, W: Write + Drop>(
+    job: &LinkJob<'_, '_>,
     files: &mut F,
-    plan: &LinkPlan,
     output: BufWriter<W>,
 ) -> Result<u8, LinkFailure> {
-    let caps = caps_of(asked);
+    let output = match resolve_within(job, files, output, first_bytes(&job.caps))? {
+        LinkAttempt::Answered(status) => return Ok(status),
+        LinkAttempt::Full(output) => output,
+    };
+    match resolve_within(job, files, output, job.caps.key_bytes)? {
+        LinkAttempt::Answered(status) => Ok(status),
+        LinkAttempt::Full(_) => Err(LinkFailure::Memory),
+    }
+}
+
+/// Returns how many bytes of names are allocated at first: all, if a budget counts what is read.
+fn first_bytes(caps: &LinkCaps) -> u32 {
+    match caps.budget {
+        Some(_) => caps.key_bytes,
+        None => caps.key_bytes.min(FIRST_BYTES),
+    }
+}
+
+/// Allocates the memory of a link, with some bytes of names, takes its inputs, and writes its lines,
+/// unless more bytes of names are allowed and needed.
+///
+/// # Errors
+/// Out of memory, a file cannot be opened or read, or the output cannot be written.
+fn resolve_within<F: InputFiles, W: Write + Drop>(
+    job: &LinkJob<'_, '_>,
+    files: &mut F,
+    output: BufWriter<W>,
+    most: u32,
+) -> Result<LinkAttempt<W>, LinkFailure> {
+    let (words, plan) = (job.words, job.plan);
     let steps = plan.steps.len();
-    let Ok(mut bytes) = key_memory(alloc, &caps) else {
+    let Ok(mut bytes) = key_memory(job.alloc, most) else {
         return Err(LinkFailure::Memory);
     };
-    let Ok(mut link) = Resolver::new(alloc, hasher, &caps, words.output, steps, &mut bytes) else {
+    let made = Resolver::new(
+        job.alloc,
+        job.hasher,
+        &job.caps,
+        words.output,
+        steps,
+        &mut bytes,
+    );
+    let Ok(mut link) = made else {
         return Err(LinkFailure::Memory);
     };
     let ended = resolve_into(&mut link, files, words, plan);
-    show_resolved(&link, &*files, ended, lines_of(asked), output)
+    if most < job.caps.key_bytes && link.lacks_keys() {
+        return Ok(LinkAttempt::Full(output));
+    }
+    let status = show_resolved(&link, &*files, ended, job.style, output)?;
+    Ok(LinkAttempt::Answered(status))
 }
 
 /// Allocates the memory of the names of symbols.
-fn key_memory(alloc: Global, caps: &LinkCaps) -> Result<Vec<u8>, std::alloc::AllocError> {
-    vec![in alloc; 0u8; caps.key_bytes as usize]
+fn key_memory(alloc: Global, bytes: u32) -> Result<Vec<u8>, std::alloc::AllocError> {
+    vec![in alloc; 0u8; bytes as usize]
 }
 
 /// Returns how the lines are written.
