@@ -8,7 +8,8 @@ SYSTEM = [b"/usr/local/lib/x86_64-linux-gnu", b"/lib/x86_64-linux-gnu", b"/usr/l
           b"/usr/lib64", b"/usr/local/lib", b"/lib", b"/usr/lib"]
 STATIC, DYNAMIC = ("static", "Bstatic", "dn", "non_shared"), ("Bdynamic", "dy", "call_shared")
 PASSED = ("o", "z", "h", "m", "I", "soname", "rpath", "rpath-link", "dynamic-linker", "Map", "plugin", "version-script", "hash-style")
-REFUSED = ("r", "T", "wrap", "defsym", "start-lib", "just-symbols", "R")
+REFUSED = ("r", "i", "Ur", "relocatable", "T", "script", "c", "mri-script", "b", "format", "wrap", "defsym", "require-defined",
+           "start-lib", "just-symbols", "R", "nostdlib")
 SCRIPT_BYTES = 4096
 # The beginnings of long options that may have one hyphen, and begin with the letter of another option.
 LONG = ("eh-frame-hdr", "export-dynamic", "emit-relocs", "embedded-relocs", "enable-", "end-group", "error-", "exclude-libs",

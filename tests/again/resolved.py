@@ -127,7 +127,6 @@ class Link:
             opened = Opened(row)
             opened.library, opened.as_needed = library, as_needed
             opened.name = path if library.soname is None else library.soname
-            opened.events = list(library.events())
             return self.ask_library(opened, False)
         self.take_object(row, Object(content, self.most, self.known))
         row.kind = "object"
@@ -147,7 +146,8 @@ class Link:
         self.has_library = True
         if not is_again:
             self.listed += [(name, opened) for name in opened.library.needed]
-        if not is_again:
+            # Of one that is in the link already no symbol is read.
+            opened.events = list(opened.library.events())
             self.spare.append(opened)
         if opened.as_needed and not self.is_needed(opened):
             row.kind = "unneeded"

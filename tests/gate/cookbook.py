@@ -1,6 +1,6 @@
 #!/usr/bin/env python3
-"""Runs each command of docs/COOKBOOK.md over files that it makes, and compares what is printed with the page: the words
-of the linker and the loader, and what elfsee prints. Runs those of README.md too, with the program as ./elfsee.
+"""Runs each command of docs/COOKBOOK.md and docs/RESOLVE.md over files that it makes, and compares what is printed with the
+page: the words of the linker and the loader, and what elfsee prints. Runs those of README.md too, with the program as ./elfsee.
 
     tests/gate/cookbook.py [--program PROGRAM]
 
@@ -21,7 +21,10 @@ sys.path.insert(0, os.path.join(os.path.dirname(os.path.realpath(__file__)), "..
 from page_commands import other_versions, shape
 from testing import TOP, option_reader, program_of
 
-PAGES = ("README.md", "docs/COOKBOOK.md")
+# Each page, and in which directory its commands run.
+PAGES = {"README.md": ".", "docs/COOKBOOK.md": ".", "docs/RESOLVE.md": "links"}
+# Each section of this one has a command.
+WHOLE_PAGE = "docs/COOKBOOK.md"
 VERSIONS = {"gcc-12": "12.2.0-14+deb12u1", "binutils": "2.40-2", "libc6-dev": "2.36-9+deb12u14", "coreutils": "9.1-1",
             "libpcre2-8-0": "10.42-1"}
 
@@ -32,6 +35,7 @@ SOURCES = {
     "pic.c": "int area(int side) { return side * side; }\n",
     "hidden.c": '__attribute__((visibility("hidden"))) int area(int side) { return side * side; }\n',
     "wants.c": '__asm__(".symver area, area@V2"); int area(int); int main(void) { return area(2); }\n',
+    "circle.c": "int area(int radius) { return 3 * radius * radius; }\n",
     "counter.c": "int counter; int next(void) { return ++counter; }\n",
     "other.c": "int other(void) { return 0; }\n",
     "direct.c": "int table[9]; int main(void) { return (int)(long)table; }\n",
@@ -62,6 +66,15 @@ gcc -fPIC -s -shared -o older/libinner.so other.c
 gcc -o both both.o libouter.so libinner.so
 head -c 100 app.o >cut.o
 gcc -o draw app.o newer.so
+mkdir links
+gcc -c -o links/main.o main.cpp
+cp app.o square.o links
+gcc -c -o links/circle.o circle.c
+cd links
+ar rcD libsquare.a square.o
+ar rcD libcircle.a circle.o
+gcc -shared -o libsquare.so square.o
+gcc -shared -o libcircle.so circle.o
 """
 
 
@@ -77,6 +90,12 @@ def examples(text):
                 else:
                     found[-1][1].append(line)
         yield heading, found
+
+
+def functions(text):
+    """The functions of the shell that a page begins with, one a line."""
+    return "".join(line + "\n" for block in re.findall(r"^```sh\n(.*?)^```", text, re.S | re.M)
+                   for line in block.splitlines() if re.match(r"\w+\(\) \{ .*\}\Z", line))
 
 
 def make_files(room):
@@ -108,15 +127,16 @@ def main():
         make_files(room)
         os.symlink(os.path.realpath(program), os.path.join(room, "elfsee"))
         environment = {"PATH": f"{room}:{os.environ['PATH']}", "LC_ALL": "C"}
-        for page in PAGES:
+        for page, folder in PAGES.items():
             with open(os.path.join(TOP, page), encoding="utf-8") as file:
-                sections = list(examples(file.read()))
+                text = file.read()
+            sections = list(examples(text))
             for heading, found in sections[1:]:
-                if page != "README.md" and not any(command.startswith("elfsee ") for command, _ in found):
+                if page == WHOLE_PAGE and not any(command.startswith("elfsee ") for command, _ in found):
                     print(f"FAILED {heading}: no command of elfsee")
                     failed += 1
             for heading, command, wanted in [(heading, *one) for heading, found in sections for one in found]:
-                got = run(command, room, environment)
+                got = run(functions(text) + command, os.path.join(room, folder), environment)
                 if got == wanted or not exact and shape(got) == shape(wanted):
                     print(f"ok      {heading}: {command}")
                     passed += 1

@@ -126,8 +126,9 @@ def lists_of(sources):
     sets = dict(re.findall(r"const (\w+): u16 = ([^;]+);", read(cli, "command_sets.rt")))
     commands = re.findall(r'CommandSpec \{\s*name: "(\w+)",.*?alias: (.*?),\s*bit: (\w+),\s*about: "([^"]*)"',
                           read(cli, "commands.rt"), re.S)
-    # Those of `needs` have names, which the table has in their places.
-    named = dict(re.findall(r"const (\w+): ArgSpec = (.*?^\});", read(cli, "needs_arguments.rt"), re.S | re.M))
+    # Those of `needs` and `resolve` have names, which the table has in their places.
+    of_two = read(cli, "needs_arguments.rt") + read(cli, "resolve_arguments.rt")
+    named = dict(re.findall(r"const (\w+): ArgSpec = (.*?^\});", of_two, re.S | re.M))
     table = re.sub(r"^    ([A-Z_]+),$", lambda entry: named[entry[1]] + ",", read(cli, "arguments.rt"), flags=re.M)
     arguments = re.findall(r'ArgSpec \{\s*name: "([\w-]+)",\s*short: (.*?),\n\s*alias: (.*?),\n\s*kind: ArgKind::(\w+)(.*?),\n'
                            r'\s*help: "([^"]*)",\n\s*commands: ([A-Z_| ]+),', table.replace("\\n\\", " \\"))

@@ -280,9 +280,9 @@ def check_commands(counts, clone, prefix, room):
     make_examples(folder)
     for command, output in examples_of_man(read(clone, "man/elfsee.1")):
         check_command(counts, "man page", command, output, folder, environment, others)
-    # tests/gate/cookbook.py makes the files that the cookbook speaks of.
+    # tests/gate/cookbook.py makes the files that these two speak of.
     pages = ["README.md", "CONTRIBUTING.md", *sorted(f"docs/{name}" for name in os.listdir(f"{clone}/docs")
-                                                     if name.endswith(".md") and name != "COOKBOOK.md")]
+                                                     if name.endswith(".md") and name not in ("COOKBOOK.md", "RESOLVE.md"))]
     for page in pages:
         for command, output in examples_of_markdown(read(clone, page)):
             check_command(counts, page, command, output, clone, environment, others)

@@ -3,22 +3,21 @@
 
     tests/machine/resolve_against_ld.py [--program PROGRAM] [--quick] [--jobs N]
 
-Links are those of `gcc -###` on this machine, of a C and a C++ program, static, position-independent and against shared
-libraries, with a static and a shared OpenSSL, with libraries in a wrong order or missing, and with a whole archive, as far as
-their libraries are installed; and generated jobs of objects, archives, whole archives and groups, every other one with shared libraries
+Links are those that compilers make on this machine (tests/common/real_links.py): some hundred small programs of C, C++ and
+Fortran with its libraries, static and shared, whole, in groups, as needed, in a wrong order or missing, as far as these are
+installed, or with --quick 13; and generated jobs of objects, archives, whole archives and groups, every other one with shared libraries
 (tests/common/made_links.py), 1,000 of them or with --quick 100. Compared are the members of archives that ld takes, in their order, each with the file and
 the symbol for which it is taken, from the map of the link; which file defines each symbol, from its cross references; and which
 symbols are undefined or defined more than once, from its messages. A symbol that no relocation uses is undefined for elfsee
 alone: those are counted. So are links that ld gives up, without a map, since a shared library refers to a hidden symbol.
 
-It needs Python 3 and from Debian gcc, g++ and binutils. Without PROGRAM the repository's own is tested, and built first if it
+It needs Python 3 and from Debian gcc and binutils, and for all links g++, gfortran and the libraries. Without PROGRAM the repository's own is tested, and built first if it
 is not built. The last line is `N passed, N failed`, and the status is 0 only if none failed and one passed.
 """
 
 import os
 import random
 import re
-import shlex
 import shutil
 import subprocess
 import sys
@@ -27,23 +26,10 @@ import tempfile
 sys.dont_write_bytecode = True
 sys.path.insert(0, os.path.join(os.path.dirname(os.path.realpath(__file__)), "..", "common"))
 import made_links  # pylint: disable=wrong-import-position
+import real_links  # pylint: disable=wrong-import-position
 from testing import Counts, option_reader, program_of  # pylint: disable=wrong-import-position
 
 PLAIN = {"PATH": "/usr/bin:/bin", "LC_ALL": "C"}
-SOURCES = {
-    "hello.c": '#include <stdio.h>\nint main(void) { puts("hello"); return 0; }\n',
-    "regex.cc": '#include <regex>\n#include <thread>\nint main() { std::thread t([] { std::regex r("a+"); '
-                'std::regex_match("aa", r); }); t.join(); }\n',
-    "ssl.c": "#include <openssl/ssl.h>\nint main(void) { return !SSL_CTX_new(TLS_client_method()); }\n",
-}
-LINKS = {
-    "C, static": ["gcc", "hello.o", "-static"], "C": ["gcc", "hello.o"], "C, static and position-independent": ["gcc", "hello.o", "-static-pie"],
-    "a library that is a script": ["gcc", "hello.o", "-static", "-lm"], "C++, static": ["g++", "regex.o", "-static"], "C++": ["g++", "regex.o"],
-    "a shared library": ["gcc", "-shared", "hello.o", "-lz"], "exported symbols": ["gcc", "-rdynamic", "hello.o"],
-    "OpenSSL, static": ["gcc", "ssl.o", "-static", "-lssl", "-lcrypto"], "OpenSSL": ["gcc", "ssl.o", "-lssl", "-lcrypto", "-lm"],
-    "OpenSSL in the wrong order": ["gcc", "ssl.o", "-static", "-lcrypto", "-lssl"], "OpenSSL without its library": ["gcc", "ssl.o"],
-    "a whole archive": ["gcc", "hello.o", "-static", "-Wl,--whole-archive", "-lz", "-Wl,--no-whole-archive"],
-}
 INCLUDED = "Archive member included to satisfy reference by file (symbol)"
 NEEDED = "As-needed library included to satisfy reference by file (symbol)"
 
@@ -144,39 +130,24 @@ class Links(Counts):
         self.check(f"{what}: multiple", linked.multiple, sorted(answer.further))
 
 
-def words_of(command):
-    """The words of the linker that a compiler calls, without its plugin and its output."""
-    told = subprocess.run([command[0], "-###", *command[1:]], stderr=subprocess.PIPE, text=True, check=False, env=PLAIN).stderr
-    lines = [line for line in told.splitlines() if "collect2" in line and line.startswith(" ")]
-    words, kept = shlex.split(lines[-1])[1:] if lines else [], []
-    while words:
-        word = words.pop(0)
-        if word in ("-plugin", "-o"):
-            words.pop(0)
-        elif not word.startswith("-plugin-opt"):
-            kept.append(word)
-    return kept
-
-
 def main():
     reader = option_reader(__doc__)
     reader.add_argument("--quick", action="store_true")
     reader.add_argument("--jobs", type=int)
     given = reader.parse_args()
     count = given.jobs if given.jobs is not None else 100 if given.quick else 1000
-    links, rng = Links(program_of(given)), random.Random(2240)
+    links, rng, left_out = Links(program_of(given)), random.Random(2240), []
     if not shutil.which("gcc") or not shutil.which("ld"):
         print("gcc and ld are not installed, so nothing is compared")
         return links.end(True)
     with tempfile.TemporaryDirectory() as folder:
         os.chdir(folder)
-        for name, text in SOURCES.items():
-            with open(name, "w") as file:
-                file.write(text)
-            subprocess.run(["g++" if name.endswith("cc") else "gcc", "-c", name], stderr=subprocess.DEVNULL, check=False)
-        for what, command in LINKS.items():
-            if all(os.path.exists(word) for word in command if word.endswith(".o")):
-                links.compare(what, words_of(command), True)
+        for what, text in list(real_links.LINKS.items())[:real_links.QUICK if given.quick else None]:
+            command = real_links.command_of(text, folder)
+            if command is None:
+                left_out.append(what)
+            else:
+                links.compare(what, real_links.words_of(command), True)
         for number in range(count):
             files, words = made_links.random_job(rng, made_links.PLAIN_NAMES, 1, 3 * (number % 2))
             for name, content in files.items():
@@ -184,6 +155,8 @@ def main():
                     file.write(content)
             links.compare(f"job {number}: {b' '.join(words).decode()}", [os.fsdecode(word) for word in words], False)
         os.chdir("/")
+    if left_out:
+        print(f"left out, since something is not installed: {'; '.join(left_out)}")
     print(f"{links.members} members and {links.symbols} symbols are the same; {links.unused} undefined symbols are used by "
           f"no relocation; {links.given_up} links that ld gives up are not compared")
     return links.end()

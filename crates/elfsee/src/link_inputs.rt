@@ -47,6 +47,7 @@ pub struct FoundInputs<'r, R> {
     pub(crate) pending: Vec<PendingStep>,
     pub(crate) script: [u8; SCRIPT_BYTES],
     pub(crate) scripts: usize,
+    pub(crate) script_parts: usize,
     pub(crate) most: usize,
 }
 
@@ -64,6 +65,7 @@ where
             pending: Vec::new(alloc),
             script: [0; SCRIPT_BYTES],
             scripts: 0,
+            script_parts: 0,
             most: (rows as usize).saturating_add(1),
         }
     }

@@ -31,7 +31,25 @@ const PASSED: [&str; 13] = [
 ];
 
 /// Options that change what is linked, and are not known here.
-const UNKNOWN: [&str; 7] = ["r", "T", "wrap", "defsym", "start-lib", "just-symbols", "R"];
+const UNKNOWN: [&str; 17] = [
+    "r",
+    "i",
+    "Ur",
+    "relocatable",
+    "T",
+    "script",
+    "c",
+    "mri-script",
+    "b",
+    "format",
+    "wrap",
+    "defsym",
+    "require-defined",
+    "start-lib",
+    "just-symbols",
+    "R",
+    "nostdlib",
+];
 
 /// An input of a link, and what holds at its place.
 #[derive(Clone, Copy)]

@@ -9,6 +9,9 @@ use std::alloc::AllocError;
 use std::os::unix::fs::FileExt;
 use std::rt::Files;
 
+/// How many inputs and groups all scripts can have, inputs that are scripts again among them.
+const MOST_SCRIPT_PARTS: usize = 65_536;
+
 impl<R: Files> FoundInputs<'_, R>
 where
     R::File: FileExt,
@@ -71,6 +74,9 @@ where
                     }
                 }
                 ScriptToken::Text(b"GROUP") => {
+                    if !self.count_part() {
+                        return Ok(false);
+                    }
                     self.pending.push(PendingStep::Open)?;
                     if !self.read_list(&mut tokens, path, state)? {
                         return Ok(false);
@@ -83,7 +89,8 @@ where
         Ok(true)
     }
 
-    /// Adds the inputs of a list in parentheses. Returns whether it is one.
+    /// Adds the inputs of a list in parentheses. Returns whether it is one, of no more inputs than
+    /// are allowed.
     ///
     /// # Errors
     /// Out of memory.
@@ -100,6 +107,9 @@ where
                 ListPart::End => return Ok(true),
                 ListPart::Inside => {}
                 ListPart::Item(word) => {
+                    if !self.count_part() {
+                        return Ok(false);
+                    }
                     let state = WordState {
                         as_needed: state.as_needed || depth > 1,
                         ..state
@@ -109,6 +119,12 @@ where
             }
         }
         Ok(false)
+    }
+
+    /// Counts an input or a group of a script. Returns `false` if there are too many.
+    fn count_part(&mut self) -> bool {
+        self.script_parts = self.script_parts.saturating_add(1);
+        self.script_parts <= MOST_SCRIPT_PARTS
     }
 
     /// Adds an input of a script.
