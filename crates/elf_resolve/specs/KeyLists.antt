@@ -24,9 +24,9 @@ further_places key place (f ∷ further) =
     if f.key == key then place ∷ further_places key (place + 1) further else further_places key (place + 1) further
 
 -- there are lists for all keys
-abbrev pub AreEntriesOf : (keys : ℕ) → List IndexEntry → Type 0
-AreEntriesOf keys [] = Unit {0}
-AreEntriesOf keys (e ∷ entries) = (e.key + 1 ≤ keys) × (e.default_key + 1 ≤ keys) × AreEntriesOf keys entries
+abbrev pub AreEntriesListed : (keys : ℕ) → List IndexEntry → Type 0
+AreEntriesListed keys [] = Unit {0}
+AreEntriesListed keys (e ∷ entries) = (e.key + 1 ≤ keys) × (e.default_key + 1 ≤ keys) × AreEntriesListed keys entries
 
 abbrev pub AreFurtherOf : (keys : ℕ) → List FurtherDefinition → Type 0
 AreFurtherOf keys [] = Unit {0}

@@ -25,6 +25,6 @@ abbrev pub member_refused : (at : ℕ) → Result FileRange Cause → Option Lin
 member_refused at (Ok extent) = None
 member_refused at (Err cause) = Some (record { at = at; cause = Refused cause })
 
-abbrev pub ReadsHeader : List ℕ → (at : ℕ) → (header : List ℕ) → Result Place LinkFault → Type 0
-ReadsHeader file at header (Ok place) = ReadHeader file at header (extent_of place)
-ReadsHeader file at header (Err fault) = length file < 2 ^ 63 → IsLinkFault (member_refused at (member_data file at)) fault
+abbrev pub ReadsMemberHeader : List ℕ → (at : ℕ) → (header : List ℕ) → Result Place LinkFault → Type 0
+ReadsMemberHeader file at header (Ok place) = ReadHeader file at header (extent_of place)
+ReadsMemberHeader file at header (Err fault) = length file < 2 ^ 63 → IsLinkFault (member_refused at (member_data file at)) fault
