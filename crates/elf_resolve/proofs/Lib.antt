@@ -22,3 +22,5 @@ pub mod IndexLaws
 pub mod EntryNames
 pub mod IndexPasses
 pub mod IndexParts
+pub mod MemberTaking
+pub mod MemberNameLaws

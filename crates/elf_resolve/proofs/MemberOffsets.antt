@@ -45,7 +45,7 @@ abbrev pub found_or_none : Result ℕ ℕ → Option ℕ
 found_or_none (Ok place) = Some place
 found_or_none (Err place) = None
 
-header_is : (members : List LinkMember) (k : ℕ) → k < length members → get_or (map header_of members) k 0 ≡ (get_or members k no_member).header
+pub header_is : (members : List LinkMember) (k : ℕ) → k < length members → get_or (map header_of members) k 0 ≡ (get_or members k no_member).header
 header_is members k below = get_or-map header_of members k no_member 0 below
 
 at_place : (members : List LinkMember) (at place : ℕ) → place < length members → ((k : ℕ) → k < place → (get_or members k no_member).header ≢ at) → (get_or members place no_member).header ≡ at
