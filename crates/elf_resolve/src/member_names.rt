@@ -1,9 +1,11 @@
 //! The names of the members that are taken.
 ghost use Rattle.std.specs.Prelude.{◌≡◌, IfOk, IfSome, List, [], ℕ, Some, length, map};
+ghost use Rattle.std.specs.List.Sorted.{IsStrictlyIncreasing};
 ghost use Rattle.elf_archive.specs.Members.{IsInBounds, extent_of_names};
+ghost use Rattle.elf_model.specs.Prelude.{shown_as};
 ghost use Rattle.elf_source.specs.Prelude.{KeepsSource};
 ghost use Rattle.elf_resolve.specs.MemberExtents.{LiesAfterHeader};
-ghost use Rattle.elf_resolve.specs.MemberNames.{AppendsName, NamesMember, ReadsMemberName};
+ghost use Rattle.elf_resolve.specs.MemberNames.{AppendsName, IsFirstFrom, NamesMember, ReadsMemberName, RowsAscend, name_of_row_in, place_in, row_of_place};
 
 use crate::link_faults::{LinkFault, file_refused, refused};
 use crate::string_buffer::{HeldText, NO_TEXT, part_of};
@@ -101,7 +103,10 @@ impl NamesOfMembers {
     }
 
     /// Returns the name of the member of a row, and whether it has more bytes than are shown.
-    pub(crate) fn name(&self, row: u32) -> (&[u8], bool) {
+    pub(crate) fn name(&self, row: u32) -> (&[u8], bool)
+        ensures { RowsAscend self.now →
+            shown_as result.1 result.0.now ≡ name_of_row_in self.now row }
+    {
         let NamePlace { name, is_cut, .. } = place_of_row(&self.places, row);
         (part_of(&self.bytes, name.start, name.size), is_cut)
     }
@@ -109,7 +114,10 @@ impl NamesOfMembers {
 
 /// Returns the place of the name of a row, which is empty if it has none; places are in the order of
 /// their rows.
-fn place_of_row(places: &[NamePlace], row: u32) -> NamePlace {
+fn place_of_row(places: &[NamePlace], row: u32) -> NamePlace
+    ensures { IsStrictlyIncreasing (map row_of_place places.now) →
+        result ≡ place_in places.now row }
+{
     let index = first_from(places, row);
     match places.get(index) {
         Some(place) if place.row == row => *place,
@@ -135,7 +143,10 @@ fn append(bytes: &mut Vec<u8>, name: &[u8], room: usize) -> Option<HeldText>
 
 /// Returns the index of the first place of a row or a later one; places are in the order of their
 /// rows.
-fn first_from(places: &[NamePlace], row: u32) -> usize {
+fn first_from(places: &[NamePlace], row: u32) -> usize
+    ensures { IsStrictlyIncreasing (map row_of_place places.now) →
+        IsFirstFrom (map row_of_place places.now) row result }
+{
     let mut low = 0;
     let mut high = places.len();
     while low < high {
