@@ -14,7 +14,7 @@ pub mod StatedLaws
 pub mod LinkerNameLaws
 pub mod StringBufferLaws
 pub mod LinkFaultLaws
-pub mod FaultLaws
+pub mod MemberFaultLaws
 pub mod MemberWalks
 pub mod MemberOffsets
 pub mod MemberPasses

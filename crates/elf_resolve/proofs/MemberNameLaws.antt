@@ -12,7 +12,7 @@ use Rattle.elf_model.specs.Archive.{member_data, member_name}
 use Rattle.elf_model.specs.Bytes.{slice}
 use Rattle.elf_model.specs.LinkArchives.{LINK_NAME_BYTES}
 use Rattle.elf_model.specs.ShownNames.{shown_as}
-use Rattle.elf_resolve.specs.MemberNames.{IsFirstFrom, IsPlaceIn, RowName, name_at_place, name_of_row_in, named_refusal, place_in, row_of_name, row_of_place}
+use Rattle.elf_resolve.specs.MemberNames.{IsFirstFrom, IsNamePlaceIn, RowName, name_at_place, name_of_row_in, named_refusal, place_in, row_of_name, row_of_place}
 use Rattle.elf_resolve.specs.declared.member_names.NamePlace.{NamePlace}
 use Rattle.elf_resolve.specs.declared.string_buffer.HeldText.{HeldText}
 
@@ -21,7 +21,7 @@ slice_kept : (bytes more : List ℕ) (start size : ℕ) → start + size ≤ len
 slice_kept bytes more start size within =
     ap (take size) (drop-append-le start bytes more (omega (arith, within))) ∙ take-append-le size (drop start bytes) more (omega (arith, within, length-drop start bytes))
 
-pub names_kept : (bytes more : List ℕ) (places : List NamePlace) → All (IsPlaceIn (length bytes)) places → map (name_at_place (bytes ++ more)) places ≡ map (name_at_place bytes) places
+pub names_kept : (bytes more : List ℕ) (places : List NamePlace) → All (IsNamePlaceIn (length bytes)) places → map (name_at_place (bytes ++ more)) places ≡ map (name_at_place bytes) places
 names_kept bytes more [] within = refl
 names_kept bytes more (p ∷ places) within =
     let here : p.name.start + p.name.size ≤ length bytes = within 0 p (omega arith) in
@@ -32,7 +32,7 @@ names_kept bytes more (p ∷ places) within =
 last_slice : (bytes name : List ℕ) → slice (bytes ++ name) (length bytes) (length name) ≡ name
 last_slice bytes name = ap (take (length name)) (drop_at bytes name (length bytes) refl) ∙ take_all (length name) name (omega arith)
 
-pub name_added : (bytes name after : List ℕ) (places pushed : List NamePlace) (text : HeldText) (row : ℕ) (is_cut : Bool) → All (IsPlaceIn (length bytes)) places → after ≡ bytes ++ name
+pub name_added : (bytes name after : List ℕ) (places pushed : List NamePlace) (text : HeldText) (row : ℕ) (is_cut : Bool) → All (IsNamePlaceIn (length bytes)) places → after ≡ bytes ++ name
     → text ≡ record { start = length bytes; size = length name } → pushed ≡ places ++ record { row = row; name = text; is_cut = is_cut } ∷ []
     → map (name_at_place after) pushed ≡ map (name_at_place bytes) places ++ record { row = row; name = shown_as is_cut name } ∷ []
 name_added bytes name after places pushed text row is_cut within grown place added =
@@ -42,15 +42,15 @@ name_added bytes name after places pushed text row is_cut within grown place add
     ∙ ap (λ l. l ++ name_at_place (bytes ++ name) p ∷ []) (names_kept bytes name places within)
     ∙ ap (λ b. map (name_at_place bytes) places ++ (record { row = row; name = shown_as is_cut b }) ∷ []) (last_slice bytes name)
 
-pub places_added : (bytes name after : List ℕ) (places pushed : List NamePlace) (text : HeldText) (row : ℕ) (is_cut : Bool) → All (IsPlaceIn (length bytes)) places → after ≡ bytes ++ name
-    → text ≡ record { start = length bytes; size = length name } → pushed ≡ places ++ record { row = row; name = text; is_cut = is_cut } ∷ [] → All (IsPlaceIn (length after)) pushed
+pub places_added : (bytes name after : List ℕ) (places pushed : List NamePlace) (text : HeldText) (row : ℕ) (is_cut : Bool) → All (IsNamePlaceIn (length bytes)) places → after ≡ bytes ++ name
+    → text ≡ record { start = length bytes; size = length name } → pushed ≡ places ++ record { row = row; name = text; is_cut = is_cut } ∷ [] → All (IsNamePlaceIn (length after)) pushed
 places_added bytes name after places pushed text row is_cut within grown place added =
     let p : NamePlace = record { row = row; name = text; is_cut = is_cut } in
     let size : length after ≡ length bytes + length name = ap length grown ∙ length-append bytes name in
     let last : text.start + text.size ≤ length after = omega (arith, size, ap (λ (t : HeldText). t.start) place, ap (λ (t : HeldText). t.size) place) in
     let more : length bytes ≤ length after = omega (arith, size) in
-    subst (λ (l : List NamePlace). All (IsPlaceIn (length after)) l) (sym added)
-    (All-push (IsPlaceIn (length after)) places p (λ k d below. omega (arith, within k d below, more)) last)
+    subst (λ (l : List NamePlace). All (IsNamePlaceIn (length after)) l) (sym added)
+    (All-push (IsNamePlaceIn (length after)) places p (λ k d below. omega (arith, within k d below, more)) last)
 
 -- A ROW'S PLACE among places of rows that ascend
 row_at : (places : List NamePlace) (k : ℕ) (d : NamePlace) → k < length places → get_or (map row_of_place places) k 0 ≡ (get_or places k d).row
@@ -122,11 +122,11 @@ pub name_by : (bytes : List ℕ) (places : List NamePlace) (row : ℕ) → name_
 name_by bytes [] row = refl
 name_by bytes (p ∷ places) row = shown_if (p.row == row) bytes p (place_in places row) (name_of_row_in (map (name_at_place bytes) places) row) (name_by bytes places row)
 
-within_if : (t : Bool) (size : ℕ) (p q : NamePlace) → IsPlaceIn size p → IsPlaceIn size q → IsPlaceIn size (if t then p else q)
+within_if : (t : Bool) (size : ℕ) (p q : NamePlace) → IsNamePlaceIn size p → IsNamePlaceIn size q → IsNamePlaceIn size (if t then p else q)
 within_if true size p q here rest = here
 within_if false size p q here rest = rest
 
-pub place_within : (size : ℕ) (places : List NamePlace) (row : ℕ) → All (IsPlaceIn size) places → IsPlaceIn size (place_in places row)
+pub place_within : (size : ℕ) (places : List NamePlace) (row : ℕ) → All (IsNamePlaceIn size) places → IsNamePlaceIn size (place_in places row)
 place_within size [] row within = omega arith
 place_within size (p ∷ places) row within =
     within_if (p.row == row) size p (place_in places row) (within 0 p (omega arith)) (place_within size places row (λ k d below. within (suc k) d (omega (arith, below))))

@@ -55,6 +55,6 @@ TakesMember files file member row old new (Err fault) =
 abbrev pub is_file_member : List ℕ → (at : ℕ) → Bool
 is_file_member file at = not (is_archive_index file at || is_name_table file at)
 
-abbrev pub TellsFile : List ℕ → (member : ℕ) → Result Bool LinkFault → Type 0
-TellsFile file member (Ok is_file) = (member < length (link_members file).members) × (is_file ≡ is_file_member file (get_or (link_members file).members member no_member).header)
-TellsFile file member (Err fault) = member < length (link_members file).members → IsLinkFault None fault
+abbrev pub ReturnsFileMember : List ℕ → (member : ℕ) → Result Bool LinkFault → Type 0
+ReturnsFileMember file member (Ok is_file) = (member < length (link_members file).members) × (is_file ≡ is_file_member file (get_or (link_members file).members member no_member).header)
+ReturnsFileMember file member (Err fault) = member < length (link_members file).members → IsLinkFault None fault

@@ -58,8 +58,8 @@ abbrev pub AppendsName : (old new name : List ℕ) → Option HeldText → Type 
 AppendsName old new name (Some text) = (new ≡ old ++ name) × (text ≡ record { start = length old; size = length name })
 AppendsName old new name None = new ≡ old
 
-abbrev pub IsPlaceIn : (size : ℕ) → NamePlace → Type 0
-IsPlaceIn size place = place.name.start + place.name.size ≤ size
+abbrev pub IsNamePlaceIn : (size : ℕ) → NamePlace → Type 0
+IsNamePlaceIn size place = place.name.start + place.name.size ≤ size
 
 -- why a member has no data, or no name
 abbrev pub unnamed_refusal : (at : ℕ) → Result DisplayedName Cause → Option LinkRefusal
@@ -75,9 +75,9 @@ pub record NamedMember (file : List ℕ) (table : Option FileRange) (at : ℕ) (
   pub data_are : member_data file at ≡ Ok extent
   pub named : member_name file LINK_NAME_BYTES table at ≡ Ok name
 
-abbrev pub NamesMember : List ℕ → (table : Option FileRange) → (at : ℕ) → (name : List ℕ) → Result (Place × Bool) LinkFault → Type 0
-NamesMember file table at name (Ok read) = NamedMember file table at (extent_of read.0) (shown_as read.1 name)
-NamesMember file table at name (Err fault) = length file < 2 ^ 63 → IsLinkFault (named_refusal at (member_data file at) (member_name file LINK_NAME_BYTES table at)) fault
+abbrev pub ReadsNamedMember : List ℕ → (table : Option FileRange) → (at : ℕ) → (name : List ℕ) → Result (Place × Bool) LinkFault → Type 0
+ReadsNamedMember file table at name (Ok read) = NamedMember file table at (extent_of read.0) (shown_as read.1 name)
+ReadsNamedMember file table at name (Err fault) = length file < 2 ^ 63 → IsLinkFault (named_refusal at (member_data file at) (member_name file LINK_NAME_BYTES table at)) fault
 
 -- A NAME READ for a row is the last one
 pub record ReadMemberName (file : List ℕ) (table : Option FileRange) (at row : ℕ) (old new : List RowName) (extent : FileRange) : Type 0 where

@@ -5,7 +5,7 @@ ghost use Rattle.elf_archive.specs.Members.{extent_of, extent_of_names, names_pa
 ghost use Rattle.elf_model.specs.LinkArchives.{LinkMember, link_member_at};
 ghost use Rattle.elf_source.specs.Prelude.{KeepsSource};
 ghost use Rattle.elf_resolve.specs.Taken.{WalksMembers, header_of};
-ghost use Rattle.elf_resolve.specs.MemberExtents.{LiesAfterHeader, ReadsHeader};
+ghost use Rattle.elf_resolve.specs.MemberExtents.{LiesAfterHeader, ReadsMemberHeader};
 ghost use Rattle.elf_resolve.specs.MemberWalks.{AddsElement, PassesMembers};
 
 use crate::link_faults::{LinkFault, refused};
@@ -169,7 +169,7 @@ pub(crate) fn read_header_at<S: Source>(
     ensures lies { IfOk result (λ extent. LiesAfterHeader at extent.at extent.size) }
     ensures keeps { KeepsSource src.old.seen src.new.seen }
     ensures reads { (file : List ℕ) → src.old.seen.file ≡ Some file →
-        ReadsHeader file at header.new result }
+        ReadsMemberHeader file at header.new result }
 {
     let length = src.length();
     if length >= 1 << 63 || at >= length {

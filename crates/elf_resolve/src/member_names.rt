@@ -5,7 +5,7 @@ ghost use Rattle.elf_archive.specs.Members.{IsInBounds, extent_of_names};
 ghost use Rattle.elf_model.specs.Prelude.{shown_as};
 ghost use Rattle.elf_source.specs.Prelude.{KeepsSource};
 ghost use Rattle.elf_resolve.specs.MemberExtents.{LiesAfterHeader};
-ghost use Rattle.elf_resolve.specs.MemberNames.{AppendsName, IsFirstFrom, NamesMember, ReadsMemberName, RowsAscend, name_of_row_in, place_in, row_of_place};
+ghost use Rattle.elf_resolve.specs.MemberNames.{AppendsName, IsFirstFrom, ReadsNamedMember, ReadsMemberName, RowsAscend, name_of_row_in, place_in, row_of_place};
 
 use crate::link_faults::{LinkFault, file_refused, refused};
 use crate::string_buffer::{HeldText, NO_TEXT, part_of};
@@ -42,13 +42,13 @@ pub(crate) struct NamesOfMembers {
 impl Model for NamesOfMembers {
     ghost use Rattle.std.specs.Prelude.{List, length, map};
     ghost use Rattle.std.specs.List.{All};
-    ghost use Rattle.elf_resolve.specs.MemberNames.{IsPlaceIn, RowName, name_at_place};
+    ghost use Rattle.elf_resolve.specs.MemberNames.{IsNamePlaceIn, RowName, name_at_place};
 
     ghost Value = { List RowName };
 
     ghost view = { λ n. map (name_at_place n.bytes.items) n.places.items };
 
-    ghost invariant = { λ n. All (IsPlaceIn (length n.bytes.items)) n.places.items };
+    ghost invariant = { λ n. All (IsNamePlaceIn (length n.bytes.items)) n.places.items };
 }
 
 impl NamesOfMembers {
@@ -175,7 +175,7 @@ fn read_named<S: Source>(
     ensures lies { IfOk result (λ read. LiesAfterHeader at read.0.at read.0.size) }
     ensures reads { (file : List ℕ) → src.old.seen.file ≡ Some file →
         IfSome (extent_of_names names) (IsInBounds (length file)) →
-        NamesMember file (extent_of_names names) at name.new result }
+        ReadsNamedMember file (extent_of_names names) at name.new result }
 {
     let length = src.length();
     if length >= 1 << 63 || at >= length {

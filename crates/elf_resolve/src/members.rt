@@ -6,7 +6,7 @@ ghost use Rattle.elf_model.specs.Bytes.{slice};
 ghost use Rattle.elf_model.specs.LinkArchives.{LinkFiles, is_archive_index, link_members, members_refusal};
 ghost use Rattle.elf_model.specs.LinkPasses.{index_name};
 ghost use Rattle.elf_source.specs.Prelude.{KeepsSource};
-ghost use Rattle.elf_resolve.specs.LinkMembers.{KnownMembers, TakesMember, TellsFile, file_of_range, members_by_file, range_before};
+ghost use Rattle.elf_resolve.specs.LinkMembers.{KnownMembers, TakesMember, ReturnsFileMember, file_of_range, members_by_file, range_before};
 ghost use Rattle.elf_resolve.specs.Taken.{FindsDefinition, header_of};
 
 use crate::archive_index::is_index;
@@ -79,7 +79,7 @@ pub(crate) fn is_file<S: Source>(
     ensures whole { src.new.seen.whole ≡ src.old.seen.whole }
     ensures tells { (file : List ℕ) → file_of_range src.old.seen ≡ Some file →
         members_refusal file ≡ None → members.now ≡ map header_of (link_members file).members →
-        TellsFile file member result }
+        ReturnsFileMember file member result }
 {
     let at = place_of(members, member)?;
     src.widen();
