@@ -19,3 +19,10 @@ pub mod ObjectLaws
 pub mod ObjectNameLaws
 pub mod ObjectRefusals
 pub mod ObjectTaken
+pub mod SectionGroupLaws
+pub mod SectionNameLaws
+pub mod FollowedLaws
+pub mod GroupTakenLaws
+pub mod GroupFoundLaws
+pub mod SectionTakenLaws
+pub mod LinkedSymbolLaws
