@@ -24,3 +24,15 @@ pub mod IndexPasses
 pub mod IndexParts
 pub mod MemberTaking
 pub mod MemberNameLaws
+pub mod ObjectSymbolLaws
+pub mod ObjectLaws
+pub mod ObjectNameLaws
+pub mod ObjectRefusals
+pub mod ObjectTaken
+pub mod SectionGroupLaws
+pub mod SectionNameLaws
+pub mod FollowedLaws
+pub mod GroupTakenLaws
+pub mod GroupFoundLaws
+pub mod SectionTakenLaws
+pub mod LinkedSymbolLaws

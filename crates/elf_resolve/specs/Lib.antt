@@ -22,3 +22,7 @@ pub mod SectionMarks
 pub mod LinkerNames
 pub mod LinkFaults
 pub mod ObjectSymbols
+pub mod ObjectParts
+pub mod ObjectNames
+pub mod SectionGroups
+pub mod Objects

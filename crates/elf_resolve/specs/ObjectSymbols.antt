@@ -1,8 +1,8 @@
 -- The symbols of an object, as they are read and taken.
-use Rattle.std.specs.Prelude.{⊤, ℕ, ◌≡◌, ◌==◌, if◌then◌else◌, Bool, true, false, List, Option, None, Some, Result, Ok, Err, map}
+use Rattle.std.specs.Prelude.{ℕ, ◌≡◌, ◌-◌, if◌then◌else◌, Bool, true, false, List, Option, None, Some, Result, Ok, Err, map}
 use Rattle.elf_model.specs.LinkArchives.{refusal_of}
 use Rattle.elf_model.specs.LinkObjects.{ObjectSymbol, is_dropped, reference_role, symbol_without}
-use Rattle.elf_model.specs.LinkSymbols.{is_global, is_weak_use, link_name, symbol_section, symbol_use, version_sign_in, with_one_sign, without_version}
+use Rattle.elf_model.specs.LinkSymbols.{is_global, is_weak_use, link_name, followed, link_symbol_at, symbol_section, symbol_use, symbols_from, version_sign_in, with_one_sign, without_version}
 use Rattle.elf_model.specs.Records.{st_name}
 use Rattle.elf_model.specs.Tables.{strings_of}
 use Rattle.elf_model.specs.declared.link_states.LinkRefusal.{LinkRefusal}
@@ -46,6 +46,15 @@ pub record NamesUse (file bytes : List ℕ) (table_at at : ℕ) (sections : List
   pub symbol_is : named.symbol ≡ use_if (is_dropped sections (symbol_section file at)) (symbol_use file at)
   pub at_is : named.at ≡ at
 
+abbrev pub MayNameUse : (file bytes : List ℕ) → (table_at at : ℕ) → (sections : List ℕ) → Option NamedUse → Type 0
+MayNameUse file bytes table_at at sections None = is_global file at ≡ false
+MayNameUse file bytes table_at at sections (Some named) = NamesUse file bytes table_at at sections named
+
+-- it is found, or its name is refused
+abbrev pub FindsUse : (file bytes : List ℕ) → (table_at at : ℕ) → (sections : List ℕ) → Result (Option NamedUse) LinkFault → Type 0
+FindsUse file bytes table_at at sections (Ok named) = MayNameUse file bytes table_at at sections named
+FindsUse file bytes table_at at sections (Err fault) = IsLinkFault (refusal_of (link_symbol_at file table_at at)) fault
+
 -- a reference does not define the name without a version
 abbrev pub is_reference : SymbolRole → Bool
 is_reference WeakReference = true
@@ -70,3 +79,9 @@ NamesKeys bytes name role (Err fault) = IsLinkFault None fault
 abbrev pub TakesObjectSymbols : (sections : List ℕ) → Result (List ObjectSymbol) LinkRefusal → (old new : KeyList) → (row : ℕ) → Result (Unit {0}) LinkFault → Type 0
 TakesObjectSymbols sections known old new row (Ok done) = (symbols : List ObjectSymbol) × (known ≡ Ok symbols) × TookSymbols old new (map (symbol_without sections) symbols) (Some row)
 TakesObjectSymbols sections known old new row (Err fault) = IsLinkFault (refusal_of known) fault
+
+-- THE SYMBOLS up to an index of a table are taken: with the others they are those from the first
+abbrev pub TookRows : (file : List ℕ) → (table_at first index count : ℕ) → (sections : List ℕ) → (old new : KeyList) → (row : ℕ) → Type 0
+TookRows file table_at first index count sections old new row =
+    (done : List ObjectSymbol) × (symbols_from file table_at first (count - first) ≡ followed done (symbols_from file table_at index (count - index)))
+    × TookSymbols old new (map (symbol_without sections) done) (Some row)

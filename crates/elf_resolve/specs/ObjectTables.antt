@@ -1,7 +1,7 @@
 -- The tables of an object in a buffer.
 use Rattle.std.specs.Prelude.{ℕ, ◌≡◌, ◌+◌, ◌*◌, ◌<◌, ◌≤◌, ◌^◌, List, length, Option, None, Some}
 use Rattle.elf_model.specs.LinkSymbols.{symbol_table_in}
-use Rattle.elf_model.specs.Records.{e_shstrndx, section_at, sh_info, sh_offset}
+use Rattle.elf_model.specs.Records.{e_shnum, e_shstrndx, section_at, sh_info, sh_offset}
 use Rattle.elf_model.specs.Tables.{SYMBOL_SIZE, entry_count, section_bytes, strings_of}
 use Rattle.elf_resolve.specs.StringBuffers.{HoldsText}
 use Rattle.elf_resolve.specs.declared.object.ObjectTables.{ObjectTables}
@@ -33,7 +33,7 @@ pub record HoldsNames (file bytes : List ℕ) (names : HeldText) : Type 0 where
   pub holds : HoldsText bytes names (section_bytes file (section_at file (e_shstrndx file)))
 
 abbrev pub HoldsSectionNames : (file bytes : List ℕ) → Option HeldText → Type 0
-HoldsSectionNames file bytes None = e_shstrndx file ≡ 0
+HoldsSectionNames file bytes None = 0 < e_shnum file → e_shstrndx file ≡ 0
 HoldsSectionNames file bytes (Some names) = HoldsNames file bytes names
 
 pub record HoldsTables (file bytes : List ℕ) (tables : ObjectTables) : Type 0 where

@@ -5,12 +5,12 @@ use crate::library_symbols::{library_need, take_library_symbols};
 use crate::link_faults::LinkFault;
 use crate::needed_libraries::{LibraryEnd, NewLibrary};
 use crate::object::linked_header;
-use crate::room::{LinkRoom, TableRoom};
+use crate::room::{LinkRoom, TableRoom, reach_slots, slots_for};
 use crate::string_buffer::{HeldText, StringBuffer};
 use crate::table::KeyTable;
 use elf_record::numbers::ET_DYN;
 use elf_source::{Counted, Source};
-use elf_table::{SectionView, load};
+use elf_table::{HeaderStore, SectionView, load};
 
 /// Reads the tables of a library.
 ///
@@ -37,7 +37,9 @@ pub(crate) fn open_library<S: Source>(
     opened: NewLibrary<'_>,
 ) -> Result<LibraryEnd, LinkFault> {
     let head = linked_header(src, ET_DYN)?;
-    let mut store = room.headers.store_for(&head);
+    let slots = slots_for(room.headers, &head);
+    reach_slots(&mut room.header_bytes, slots)?;
+    let mut store = HeaderStore::over(&mut room.header_bytes, slots);
     let loaded = load(src, &mut store, &head)?;
     let view = SectionView {
         loaded,
@@ -103,7 +105,9 @@ pub(crate) fn reopen_library<S: Source>(
 ) -> Result<LibraryEnd, LinkFault> {
     let (library, row) = known;
     let head = linked_header(src, ET_DYN)?;
-    let mut store = room.headers.store_for(&head);
+    let slots = slots_for(room.headers, &head);
+    reach_slots(&mut room.header_bytes, slots)?;
+    let mut store = HeaderStore::over(&mut room.header_bytes, slots);
     let loaded = load(src, &mut store, &head)?;
     let view = SectionView {
         loaded,

@@ -37,6 +37,7 @@ mod room;
 mod rows;
 mod section_groups;
 mod section_marks;
+mod section_names;
 mod spare_keys;
 mod spare_libraries;
 mod steps;

@@ -1,29 +1,35 @@
 //! The members of an archive, as objects of a link.
-ghost use Rattle.std.specs.Prelude.{◌≡◌, ◌+◌, ◌≤◌, ◌<◌, ◌||◌, IfOk, IfSome, OnErr, OnOk, List, ℕ, None, Ok, Some, get_or, length, map};
-ghost use Rattle.elf_archive.specs.Members.{extent_of, extent_of_names};
+ghost use Rattle.std.specs.Prelude.{◌≡◌, ◌↔◌, ◌+◌, ◌-◌, ◌≤◌, ◌<◌, ◌||◌, ◌∷◌, true, false, IfOk, IsSome, IsTrue, OnErr, OnOk, List, ℕ, Option, None, Ok, Some, bytes_eq, get_or, length, map};
+ghost use Rattle.elf_archive.specs.Members.{extent_of_names};
 ghost use Rattle.elf_model.specs.Archive.{is_name_table};
 ghost use Rattle.elf_model.specs.Bytes.{slice};
 ghost use Rattle.elf_model.specs.LinkArchives.{LinkFiles, is_archive_index, link_members, members_refusal};
-ghost use Rattle.elf_model.specs.LinkPasses.{index_name};
+ghost use Rattle.elf_model.specs.LinkPasses.{index_name, name_with_default};
+ghost use Rattle.elf_model.specs.LinkSymbols.{AT, defines_from, defines_if, is_that, link_name, symbol_table_in};
+ghost use Rattle.elf_model.specs.Tables.{SYMBOL_SIZE, entry_at};
+ghost use Rattle.elf_model.specs.declared.link_states.LinkRefusal.{LinkRefusal};
 ghost use Rattle.elf_source.specs.Prelude.{KeepsSource};
-ghost use Rattle.elf_resolve.specs.LinkMembers.{KnownMembers, TakesMember, ReturnsFileMember, file_of_range, members_by_file, range_before};
-ghost use Rattle.elf_resolve.specs.Taken.{FindsDefinition, header_of};
+ghost use Rattle.elf_resolve.specs.LinkMembers.{KnownMembers, ReturnsFileMember, TakesMember, file_of_range, members_by_file, range_before};
+ghost use Rattle.elf_resolve.specs.ObjectNames.{FindsInObject, definition_at};
+ghost use Rattle.elf_resolve.specs.ObjectTables.{HoldsSymbols, HoldsTables};
+ghost use Rattle.elf_resolve.specs.StringBuffers.{HoldsText};
+ghost use Rattle.elf_resolve.specs.Taken.{FindsDefinition, IsLimit, IsLinkFault, header_of};
 
 use crate::archive_index::is_index;
 use crate::archives::{OpenedArchive, member_cut, read_header_at};
 use crate::link_faults::{LinkFault, in_member};
-use crate::object::{SymbolRows, linked_header, read_tables, take_object};
+use crate::object::{ObjectTables, SymbolRows, linked_header, read_tables, take_object};
 use crate::object_symbols::{global_in, is_data_definition};
 use crate::passes::ArchiveObjects;
-use crate::room::LinkRoom;
-use crate::string_buffer::{HeldText, StringBuffer, split_version};
+use crate::room::{LinkRoom, reach_slots, slots_for};
+use crate::string_buffer::{HeldText, StringBuffer, after};
 use crate::table::{KeyTable, LinkStop};
 use elf_archive::{FileRange, MEMBER_HEADER_BYTES, is_name_table};
 use elf_model::{IndexEntry, LinkCause};
 use elf_record::numbers::ET_REL;
 use elf_record::{Cause, Sym};
 use elf_source::{Counted, RangeSource, Source};
-use elf_table::{SectionView, load};
+use elf_table::{HeaderStore, SectionView, load};
 
 /// The members of an archive whose file is open.
 #[derive(Drop)]
@@ -233,14 +239,25 @@ fn defines<S: Source>(
 }
 
 /// Returns `true` if a fault is one of the object itself.
-fn is_of_object(fault: &LinkFault) -> bool {
+fn is_of_object(fault: &LinkFault) -> bool
+    ensures own { result ≡ true → (known : Option LinkRefusal) → IsLinkFault known fault.now →
+        IsSome known }
+    ensures limit { result ≡ false → IsLinkFault None fault.now }
+{
     match fault {
-        LinkFault::Refused(refusal) => !matches!(
-            refusal.cause,
-            LinkCause::Refused(Cause::Budget) | LinkCause::TooManyKeys
-        ),
+        LinkFault::Refused(refusal) => !is_limit(refusal.cause),
         LinkFault::Read | LinkFault::Open => false,
     }
+}
+
+/// Returns `true` if a cause is a limit of the link.
+fn is_limit(cause: LinkCause) -> bool
+    ensures { IsTrue result ↔ IsLimit cause }
+{
+    matches!(
+        cause,
+        LinkCause::Refused(Cause::Budget) | LinkCause::TooManyKeys | LinkCause::TooManyRows
+    )
 }
 
 /// Returns whether the first symbol of an entry's name in an object is a definition, not weak and no
@@ -253,18 +270,40 @@ fn find_definition<S: Source>(
     room: &mut LinkRoom,
     entry: IndexEntry,
     keys: &KeyTable<'_>,
-) -> Result<bool, LinkFault> {
+) -> Result<bool, LinkFault>
+    ensures keeps { KeepsSource src.old.seen src.new.seen }
+    ensures headers { room.new.headers ≡ room.old.headers }
+    ensures names { room.new.names ≡ room.old.names }
+    ensures finds { (file : List ℕ) → src.old.seen.file ≡ Some file →
+        FindsInObject file room.old.headers (index_name keys.now.keys entry) result }
+{
     let head = linked_header(src, ET_REL)?;
-    let mut store = room.headers.store_for(&head);
+    let slots = slots_for(room.headers, &head);
+    reach_slots(&mut room.header_bytes, slots)?;
+    let mut store = HeaderStore::over(&mut room.header_bytes, slots);
     let loaded = load(src, &mut store, &head)?;
     let view = SectionView {
         loaded,
         store: &store,
     };
     let tables = read_tables(src, &view, &mut room.tables.strings)?;
+    Ok(is_defined_in(tables, &room.tables.strings, entry, keys))
+}
+
+/// Returns whether the first symbol of an entry's name among those of an object is a definition, not
+/// weak and no function.
+fn is_defined_in(
+    tables: ObjectTables,
+    strings: &StringBuffer,
+    entry: IndexEntry,
+    keys: &KeyTable<'_>,
+) -> bool
+    ensures { (file : List ℕ) → HoldsTables file strings.now.bytes tables →
+        result ≡ defines_if file (symbol_table_in file) (index_name keys.now.keys entry) }
+{
     match tables.symbols {
-        Some(symbols) => Ok(is_first_definition(symbols, &room.tables.strings, entry, keys)),
-        None => Ok(false),
+        Some(symbols) => is_first_definition(symbols, strings, entry, keys),
+        None => false,
     }
 }
 
@@ -275,15 +314,39 @@ fn is_first_definition(
     strings: &StringBuffer,
     entry: IndexEntry,
     keys: &KeyTable<'_>,
-) -> bool {
+) -> bool
+    ensures { (file : List ℕ) (table_at : ℕ) →
+        HoldsSymbols file strings.now.bytes table_at symbols →
+        result ≡ defines_from file table_at symbols.first (symbols.count - symbols.first)
+        (index_name keys.now.keys entry) }
+{
     for index in symbols.first..symbols.count {
-        if let Some(symbol) = global_in(strings.bytes(symbols.rows), index) {
-            if is_named(&symbol, symbols.names, strings, entry, keys) {
-                return is_data_definition(&symbol);
-            }
+        if let Some(found) = named_definition(symbols, index, strings, entry, keys) {
+            return found;
         }
     }
     false
+}
+
+/// Returns whether the symbol of an index is a definition, not weak and no function, if it has the
+/// name of an entry.
+fn named_definition(
+    symbols: SymbolRows,
+    index: u64,
+    strings: &StringBuffer,
+    entry: IndexEntry,
+    keys: &KeyTable<'_>,
+) -> Option<bool>
+    ensures { (file : List ℕ) (table_at : ℕ) →
+        HoldsSymbols file strings.now.bytes table_at symbols → index < symbols.count →
+        result ≡ definition_at file table_at (entry_at file table_at SYMBOL_SIZE index)
+        (index_name keys.now.keys entry) }
+{
+    let symbol = global_in(strings.bytes(symbols.rows), index)?;
+    if !is_named(&symbol, symbols.names, strings, entry, keys) {
+        return None;
+    }
+    Some(is_data_definition(&symbol))
 }
 
 /// Returns whether a symbol has the name of an entry; one without a valid name has not.
@@ -293,31 +356,46 @@ fn is_named(
     strings: &StringBuffer,
     entry: IndexEntry,
     keys: &KeyTable<'_>,
-) -> bool {
-    let Ok(name) = strings.name(names, u64::from(symbol.st_name), 0) else {
-        return false;
-    };
-    let text = strings.bytes(name);
-    if entry.key == entry.default_key {
-        return text == keys.name(entry.key);
+) -> bool
+    ensures { (table : List ℕ) (at : ℕ) → HoldsText strings.now.bytes names table →
+        result ≡ is_that (link_name table symbol.now.st_name at) (index_name keys.now.keys entry) }
+{
+    match strings.name(names, u64::from(symbol.st_name), 0) {
+        Ok(name) => is_name_of(strings.bytes(name), entry, keys),
+        Err(_) => false,
     }
-    match split_version(text, name) {
-        Some((base, version)) => {
-            let base = strings.bytes(base);
-            base == keys.name(entry.default_key)
-                && version_of(keys.name(entry.key), base.len()) == strings.bytes(version)
-        }
+}
+
+/// Returns `true` if a text is the name of an entry as it is in the index.
+#[tactic(auto, unfolding(elf_model::specs::LinkPasses::index_name))]
+fn is_name_of(text: &[u8], entry: IndexEntry, keys: &KeyTable<'_>) -> bool
+    ensures { result ≡ bytes_eq text.now (index_name keys.now.keys entry) }
+{
+    let name = keys.name(entry.key);
+    if entry.default_key == entry.key {
+        return text == name;
+    }
+    is_default_name(text, name, keys.name(entry.default_key))
+}
+
+/// Returns `true` if a text is a name of a default version with two signs before it: the name without
+/// the version, `@`, and what follows as many bytes of the name with it.
+fn is_default_name(text: &[u8], name: &[u8], default: &[u8]) -> bool
+    ensures { result ≡ bytes_eq text.now (name_with_default name.now default.now) }
+{
+    let size = default.len();
+    match text.split_at_checked(size) {
+        Some((front, rest)) => front == default && is_sign_and(rest, after(name, size)),
         None => false,
     }
 }
 
-/// Returns the version of a name `NAME@VERSION` of which NAME has `size` bytes.
-fn version_of(name: &[u8], size: usize) -> &[u8] {
-    match name.split_at_checked(size) {
-        Some((_, rest)) => match rest.split_first() {
-            Some((_, version)) => version,
-            None => b"",
-        },
-        None => b"",
+/// Returns `true` if some bytes are `@` and a text.
+fn is_sign_and(bytes: &[u8], text: &[u8]) -> bool
+    ensures { result ≡ bytes_eq bytes.now (AT ∷ text.now) }
+{
+    match bytes.split_first() {
+        Some((first, rest)) => *first == b'@' && rest == text,
+        None => false,
     }
 }

@@ -1,21 +1,28 @@
 //! An object of a link: its headers, its symbol table and its string tables.
-ghost use Rattle.std.specs.Prelude.{◌≡◌, ◌+◌, ◌*◌, ◌<◌, ◌≤◌, ◌^◌, List, ℕ, Some, IfSome, IsSome, length};
+ghost use Rattle.std.specs.Prelude.{◌≡◌, ◌+◌, ◌*◌, ◌<◌, ◌≤◌, ◌^◌, List, ℕ, Some, IfSome, IsOk, IsSome, length};
 ghost use Rattle.elf_model.specs.Bytes.{slice};
+ghost use Rattle.elf_model.specs.HeaderTables.{file_sections, first_typed};
+ghost use Rattle.elf_record.specs.Ehdr.{IsEhdr};
 ghost use Rattle.elf_record.specs.Sym.{IsSym};
 ghost use Rattle.elf_source.specs.Prelude.{KeepsSource};
+ghost use Rattle.elf_resolve.specs.ObjectParts.{ChecksKind, ReadsFound, ReadsLinkHeader, ReadsSectionNames, ReadsSymbols, ReadsTables};
+ghost use Rattle.elf_resolve.specs.Objects.{TakesLoaded};
+ghost use Rattle.elf_resolve.specs.StringBuffers.{KeptTexts, ReadsText};
 ghost use Rattle.elf_resolve.specs.Taken.{TakesObject};
+ghost use Rattle.elf_table.specs.Load.{HoldsSectionHeaders};
 
 use crate::link_faults::{LinkFault, refused};
 use crate::object_symbols::take_symbols;
-use crate::room::{LinkRoom, TableRoom};
-use crate::section_groups::{drop_groups, note_sections};
+use crate::room::{LinkRoom, TableRoom, reach_slots, slots_for};
+use crate::section_groups::drop_groups;
+use crate::section_names::note_sections;
 use crate::string_buffer::{HeldText, StringBuffer, part_of};
 use crate::table::KeyTable;
 use elf_model::LinkCause;
 use elf_record::numbers::{EM_X86_64, ET_REL, SHT_SYMTAB};
 use elf_record::{Ehdr, Sym};
 use elf_source::{Counted, Source};
-use elf_table::{Names, SectionView, Table, header, load};
+use elf_table::{HeaderStore, Names, SectionView, Table, header, load};
 
 /// The offset of the type in a file header, in bytes (gABI 4, ELF Header).
 const TYPE_AT: u64 = 16;
@@ -73,7 +80,9 @@ pub(crate) fn take_object<S: Source>(
         TakesObject file room.old.headers row keys.old keys.new result }
 {
     let head = linked_header(src, ET_REL)?;
-    let mut store = room.headers.store_for(&head);
+    let slots = slots_for(room.headers, &head);
+    reach_slots(&mut room.header_bytes, slots)?;
+    let mut store = HeaderStore::over(&mut room.header_bytes, slots);
     let loaded = load(src, &mut store, &head)?;
     let view = SectionView {
         loaded,
@@ -92,7 +101,12 @@ fn take_sections<S: Source>(
     room: &mut TableRoom,
     keys: &mut KeyTable<'_>,
     row: u32,
-) -> Result<(), LinkFault> {
+) -> Result<(), LinkFault>
+    ensures keeps { KeepsSource src.old.seen src.new.seen }
+    ensures takes { (file : List ℕ) → src.old.seen.file ≡ Some file →
+        HoldsSectionHeaders file view.now.loaded view.now.store.now →
+        TakesLoaded file row keys.old keys.new result }
+{
     let tables = read_tables(src, view, &mut room.strings)?;
     room.sections.clear(view.sections());
     drop_groups(
@@ -112,18 +126,30 @@ fn take_sections<S: Source>(
 ///
 /// # Errors
 /// Those of the header, `FileType` at 16 and `Machine` at 18.
-pub(crate) fn linked_header<S: Source>(
-    src: &mut Counted<S>,
-    wanted: u16,
-) -> Result<Ehdr, LinkFault> {
+pub(crate) fn linked_header<S: Source>(src: &mut Counted<S>, wanted: u16) -> Result<Ehdr, LinkFault>
+    ensures keeps { KeepsSource src.old.seen src.new.seen }
+    ensures reads { (file : List ℕ) → src.old.seen.file ≡ Some file →
+        ReadsLinkHeader file wanted result }
+{
     let head = header(src)?;
+    check_kind(&head, wanted)?;
+    Ok(head)
+}
+
+/// Checks the type and the machine in a file header.
+///
+/// # Errors
+/// `FileType` at 16 and `Machine` at 18.
+fn check_kind(head: &Ehdr, wanted: u16) -> Result<(), LinkFault>
+    ensures { (file : List ℕ) → IsEhdr file 0 head.now → ChecksKind file wanted result }
+{
     if head.e_type != wanted {
         return refused(TYPE_AT, LinkCause::FileType);
     }
     if head.e_machine != EM_X86_64 {
         return refused(MACHINE_AT, LinkCause::Machine);
     }
-    Ok(head)
+    Ok(())
 }
 
 /// Reads the symbols of the first symbol table and their names, and the names of sections.
@@ -134,7 +160,12 @@ pub(crate) fn read_tables<S: Source>(
     src: &mut Counted<S>,
     view: &SectionView<'_>,
     strings: &mut StringBuffer,
-) -> Result<ObjectTables, LinkFault> {
+) -> Result<ObjectTables, LinkFault>
+    ensures keeps { KeepsSource src.old.seen src.new.seen }
+    ensures reads { (file : List ℕ) → src.old.seen.file ≡ Some file →
+        HoldsSectionHeaders file view.now.loaded view.now.store.now →
+        ReadsTables file strings.new.bytes result }
+{
     strings.forget_after(0);
     let symbols = read_first_symbols(src, view, SHT_SYMTAB, strings)?;
     let sections = read_section_names(src, view, strings)?;
@@ -150,7 +181,13 @@ pub(crate) fn read_first_symbols<S: Source>(
     view: &SectionView<'_>,
     kind: u32,
     strings: &mut StringBuffer,
-) -> Result<Option<SymbolRows>, LinkFault> {
+) -> Result<Option<SymbolRows>, LinkFault>
+    ensures keeps { KeepsSource src.old.seen src.new.seen }
+    ensures stays { KeptTexts strings.old strings.new }
+    ensures reads { (file : List ℕ) → src.old.seen.file ≡ Some file →
+        HoldsSectionHeaders file view.now.loaded view.now.store.now →
+        ReadsFound file strings.new.bytes (first_typed (file_sections file) kind) result }
+{
     let Some(section) = view.first(kind) else {
         return Ok(None);
     };
@@ -166,7 +203,13 @@ fn read_section_names<S: Source>(
     src: &mut Counted<S>,
     view: &SectionView<'_>,
     strings: &mut StringBuffer,
-) -> Result<Option<HeldText>, LinkFault> {
+) -> Result<Option<HeldText>, LinkFault>
+    ensures keeps { KeepsSource src.old.seen src.new.seen }
+    ensures stays { KeptTexts strings.old strings.new }
+    ensures reads { (file : List ℕ) → src.old.seen.file ≡ Some file →
+        HoldsSectionHeaders file view.now.loaded view.now.store.now →
+        ReadsSectionNames file strings.new.bytes result }
+{
     let Some(names) = view.names() else {
         return Ok(None);
     };
@@ -183,11 +226,17 @@ pub(crate) fn read_names<S: Source>(
     names: Names,
     place: u64,
     strings: &mut StringBuffer,
-) -> Result<HeldText, LinkFault> {
+) -> Result<HeldText, LinkFault>
+    ensures keeps { KeepsSource src.old.seen src.new.seen }
+    ensures stays { KeptTexts strings.old strings.new }
+    ensures reads { (file : List ℕ) → src.old.seen.file ≡ Some file →
+        ReadsText file names.at names.size strings.old strings.new result }
+    ensures empty { names.size ≡ 0 → IsOk result }
+{
     strings.read(src, names.at(), names.size(), place)
 }
 
-/// Reads a table of symbols.
+/// Reads a table of rows.
 ///
 /// # Errors
 /// There is no room for it; those of reading it.
@@ -195,8 +244,15 @@ pub(crate) fn read_rows<S: Source>(
     src: &mut Counted<S>,
     table: Table,
     strings: &mut StringBuffer,
-) -> Result<HeldText, LinkFault> {
-    let size = table.len().saturating_mul(SYMBOL_BYTES as u64);
+) -> Result<HeldText, LinkFault>
+    ensures keeps { KeepsSource src.old.seen src.new.seen }
+    ensures stays { KeptTexts strings.old strings.new }
+    ensures reads { (file : List ℕ) → src.old.seen.file ≡ Some file →
+        ReadsText file table.at (table.count * table.entry) strings.old strings.new result }
+    ensures empty { table.count ≡ 0 → IsOk result }
+    ensures fits { table.at + table.count * table.entry < 2 ^ 64 }
+{
+    let size = table.len().saturating_mul(table.entry());
     strings.read(src, table.at(), size, table.at())
 }
 
@@ -211,6 +267,11 @@ fn read_symbols<S: Source>(
     strings: &mut StringBuffer,
 ) -> Result<SymbolRows, LinkFault>
     requires { section < view.now.store.now.loaded }
+    ensures keeps { KeepsSource src.old.seen src.new.seen }
+    ensures stays { KeptTexts strings.old strings.new }
+    ensures reads { (file : List ℕ) → src.old.seen.file ≡ Some file →
+        HoldsSectionHeaders file view.now.loaded view.now.store.now →
+        ReadsSymbols file strings.new.bytes section result }
 {
     let (table, names) = view.symbols(section)?;
     let first = u64::from(view.section(section).sh_info);

@@ -1,18 +1,21 @@
 //! The symbols of an object.
-ghost use Rattle.std.specs.Prelude.{◌≡◌, ◌+◌, ◌*◌, ◌≤◌, ◌==◌, ◌&&◌, ◌||◌, not, true, false, List, ℕ, Some, bytes_eq, length, IfSome, IsSome};
+ghost use Rattle.std.specs.Prelude.{◌≡◌, ◌+◌, ◌-◌, ◌*◌, ◌<◌, ◌≤◌, ◌==◌, ◌||◌, if◌then◌else◌, true, List, ℕ, Option, None, Some, bytes_eq, length, IfOk, IsSome, OnOk};
 ghost use Rattle.elf_model.specs.Bytes.{slice};
 ghost use Rattle.elf_model.specs.LinkObjects.{is_dropped};
-ghost use Rattle.elf_model.specs.LinkSymbols.{LTO_MARK, absolute_value, is_common, is_data_definition, is_global, symbol_role, symbol_section, symbol_use};
+ghost use Rattle.elf_model.specs.LinkSymbols.{LTO_MARK, absolute_value, is_common, is_data_definition, link_symbol_at, symbol_role, symbol_section, symbol_table_in, symbol_use, symbols_from, symbols_if};
 ghost use Rattle.elf_model.specs.Numbers.{STT_FUNC, STT_GNU_IFUNC};
 ghost use Rattle.elf_model.specs.Records.{st_type};
+ghost use Rattle.elf_model.specs.Tables.{SYMBOL_SIZE, entry_at};
 ghost use Rattle.elf_record.specs.Sym.{IsSym};
-ghost use Rattle.elf_resolve.specs.ObjectSymbols.{FindsGlobal, NamesKeys, NamesUse, reference_at, use_if};
+ghost use Rattle.elf_resolve.specs.ObjectSymbols.{FindsGlobal, FindsUse, HoldsSome, MayNameUse, NamesKeys, NamesUse, TakesObjectSymbols, is_reference, reference_at, use_if};
+ghost use Rattle.elf_resolve.specs.ObjectTables.{HoldsSymbols, HoldsTables};
 ghost use Rattle.elf_resolve.specs.SectionMarks.{MarksDropped};
 ghost use Rattle.elf_resolve.specs.StringBuffers.{HoldsText, KeptTexts};
+ghost use Rattle.elf_resolve.specs.Symbols.{TookSymbol, name_of_symbol_in, symbol_record as taken_symbol};
 
 use crate::key_marks::KeyMarks;
 use crate::link_faults::{LinkFault, full, refused};
-use crate::object::{ObjectTables, symbol_in};
+use crate::object::{ObjectTables, SymbolRows, symbol_in};
 use crate::section_marks::SectionMarks;
 use crate::string_buffer::{HeldText, StringBuffer, split_version};
 use crate::symbols::Symbol;
@@ -46,20 +49,90 @@ pub(crate) fn take_symbols(
     keys: &mut KeyTable<'_>,
     marks: &mut KeyMarks,
     row: u32,
-) -> Result<(), LinkFault> {
-    let Some(symbols) = tables.symbols else {
+) -> Result<(), LinkFault>
+    ensures { (file : List ℕ) (count : ℕ) (dropped : List ℕ) →
+        HoldsTables file strings.old.bytes tables → MarksDropped count sections.now dropped →
+        TakesObjectSymbols dropped (symbols_if file (symbol_table_in file)) keys.old keys.new row
+        result }
+{
+    match tables.symbols {
+        Some(symbols) => take_rows(symbols, strings, sections, keys, marks, row),
+        None => Ok(()),
+    }
+}
+
+/// Takes the symbols of a table from the first that is not local on.
+///
+/// # Errors
+/// Those of [`take_symbols`].
+fn take_rows(
+    symbols: SymbolRows,
+    strings: &mut StringBuffer,
+    sections: &SectionMarks,
+    keys: &mut KeyTable<'_>,
+    marks: &mut KeyMarks,
+    row: u32,
+) -> Result<(), LinkFault>
+    ensures { (file : List ℕ) (table_at count : ℕ) (dropped : List ℕ) →
+        HoldsSymbols file strings.old.bytes table_at symbols → MarksDropped count sections.now dropped →
+        TakesObjectSymbols dropped
+        (symbols_from file table_at symbols.first (symbols.count - symbols.first))
+        keys.old keys.new row result }
+{
+    for index in symbols.first..symbols.count {
+        let named = named_use(symbols, index, strings, sections)?;
+        take_named(named, strings, keys, marks, row)?;
+    }
+    Ok(())
+}
+
+/// Returns the symbol of an index of a table, with its name, if it is global, weak or unique.
+///
+/// # Errors
+/// Those of its name, at the symbol.
+fn named_use(
+    symbols: SymbolRows,
+    index: u64,
+    strings: &StringBuffer,
+    sections: &SectionMarks,
+) -> Result<Option<NamedUse>, LinkFault>
+    ensures { (file : List ℕ) (table_at count : ℕ) (dropped : List ℕ) →
+        HoldsSymbols file strings.now.bytes table_at symbols → index < symbols.count →
+        MarksDropped count sections.now dropped →
+        FindsUse file strings.now.bytes table_at (entry_at file table_at SYMBOL_SIZE index) dropped
+        result }
+{
+    let Some(symbol) = global_in(strings.bytes(symbols.rows), index) else {
+        return Ok(None);
+    };
+    let at = symbols.place(index);
+    let name = strings.name(symbols.names, u64::from(symbol.st_name), at)?;
+    let symbol = use_of(&symbol, is_in_dropped(&symbol, sections));
+    Ok(Some(NamedUse { name, symbol, at }))
+}
+
+/// Takes a symbol, if there is one; nothing of it stays in the buffer.
+///
+/// # Errors
+/// Those of [`take_symbol`].
+fn take_named(
+    named: Option<NamedUse>,
+    strings: &mut StringBuffer,
+    keys: &mut KeyTable<'_>,
+    marks: &mut KeyMarks,
+    row: u32,
+) -> Result<(), LinkFault>
+    ensures same { IfOk result (λ _. strings.new ≡ strings.old) }
+    ensures takes { (file : List ℕ) (table_at at : ℕ) (dropped : List ℕ) →
+        MayNameUse file strings.old.bytes table_at at dropped named →
+        TakesObjectSymbols dropped (link_symbol_at file table_at at) keys.old keys.new row result }
+{
+    let Some(named) = named else {
         return Ok(());
     };
     let used = strings.used();
-    for index in symbols.first..symbols.count {
-        if let Some(symbol) = global_in(strings.bytes(symbols.rows), index) {
-            let at = symbols.place(index);
-            let name = strings.name(symbols.names, u64::from(symbol.st_name), at)?;
-            let symbol = use_of(&symbol, is_in_dropped(&symbol, sections));
-            take_symbol(NamedUse { name, symbol, at }, strings, keys, marks, row)?;
-            strings.forget_after(used);
-        }
-    }
+    take_symbol(named, strings, keys, marks, row)?;
+    strings.forget_after(used);
     Ok(())
 }
 
@@ -93,7 +166,12 @@ fn take_symbol(
     keys: &mut KeyTable<'_>,
     marks: &mut KeyMarks,
     row: u32,
-) -> Result<(), LinkFault> {
+) -> Result<(), LinkFault>
+    ensures stays { KeptTexts strings.old strings.new }
+    ensures takes { (file : List ℕ) (table_at at : ℕ) (dropped : List ℕ) →
+        NamesUse file strings.old.bytes table_at at dropped named →
+        TakesObjectSymbols dropped (link_symbol_at file table_at at) keys.old keys.new row result }
+{
     let NamedUse { name, symbol, at } = named;
     if is_lto_mark(strings.bytes(name)) {
         return refused(at, LinkCause::Lto);
@@ -102,13 +180,11 @@ fn take_symbol(
         return Ok(());
     }
     let (name, default) = key_names(strings, name, symbol.role, at)?;
-    match take_names(strings, name, default, symbol, keys, row) {
-        Ok(()) => {
-            note_names(strings, (name, default), symbol, keys, marks);
-            Ok(())
-        }
-        Err(fault) => Err(full(at, fault)),
+    if let Err(fault) = take_names(strings, name, default, symbol, keys, row) {
+        return Err(full(at, fault));
     }
+    note_names(strings, (name, default), symbol, keys, marks);
+    Ok(())
 }
 
 /// Notes the keys that an object's symbol has used.
@@ -151,7 +227,12 @@ fn take_names(
     symbol: SymbolUse,
     keys: &mut KeyTable<'_>,
     row: u32,
-) -> Result<(), KeyFault> {
+) -> Result<(), KeyFault>
+    ensures { (is : List ℕ) (default_is : Option (List ℕ)) → HoldsText strings.now.bytes name is →
+        HoldsSome strings.now.bytes default default_is →
+        OnOk result (TookSymbol keys.old keys.new
+        (record { name = is; default_name = default_is; symbol = symbol }) (Some row)) }
+{
     keys.take(symbol_record(strings, name, default, symbol), Some(row))
 }
 
@@ -161,7 +242,11 @@ pub(crate) fn symbol_record<'s>(
     name: HeldText,
     default: Option<HeldText>,
     symbol: SymbolUse,
-) -> Symbol<'s> {
+) -> Symbol<'s>
+    ensures { (is : List ℕ) (default_is : Option (List ℕ)) → HoldsText strings.now.bytes name is →
+        HoldsSome strings.now.bytes default default_is →
+        taken_symbol result ≡ record { name = is; default_name = default_is; symbol = symbol } }
+{
     Symbol {
         name: strings.bytes(name),
         default_name: held_bytes(strings, default),
@@ -170,7 +255,10 @@ pub(crate) fn symbol_record<'s>(
 }
 
 /// Returns the bytes of a text in a buffer, if there is one.
-fn held_bytes(strings: &StringBuffer, text: Option<HeldText>) -> Option<&[u8]> {
+fn held_bytes(strings: &StringBuffer, text: Option<HeldText>) -> Option<&[u8]>
+    ensures { (is : Option (List ℕ)) → HoldsSome strings.now.bytes text is →
+        name_of_symbol_in result ≡ is }
+{
     match text {
         Some(text) => Some(strings.bytes(text)),
         None => None,
@@ -291,8 +379,15 @@ fn key_names(
         return Ok((name, None));
     };
     let joined = strings.join(base, version, at)?;
+    Ok((joined, unless_reference(role, base)))
+}
+
+/// Returns a text, unless it is one of a reference.
+fn unless_reference(role: SymbolRole, text: HeldText) -> Option<HeldText>
+    ensures { result ≡ (if is_reference role then None else Some text) }
+{
     match role {
-        SymbolRole::Reference | SymbolRole::WeakReference => Ok((joined, None)),
-        _ => Ok((joined, Some(base))),
+        SymbolRole::Reference | SymbolRole::WeakReference => None,
+        _ => Some(text),
     }
 }

@@ -1,13 +1,20 @@
 //! The limits of a link, and the memory for one file at a time.
-ghost use Rattle.std.specs.Prelude.{◌≤◌};
+ghost use Rattle.std.specs.Prelude.{◌≡◌, ◌*◌, ◌≤◌, None, IfErr, IfOk, vec_len};
+ghost use Rattle.elf_resolve.specs.Taken.{IsLinkFault};
+ghost use Rattle.elf_table.specs.Store.{slots_of};
 
 use crate::key_marks::KeyMarks;
+use crate::link_faults::{LinkFault, refused};
 use crate::member_names::NamesOfMembers;
 use crate::section_marks::SectionMarks;
 use crate::string_buffer::StringBuffer;
 use crate::version_names::VersionNames;
-use elf_table::HeaderBuffer;
+use elf_model::LinkCause;
+use elf_record::Ehdr;
 use std::alloc::{AllocError, Global};
+
+/// The size of a section header in bytes, which is more than that of a program header.
+const HEADER_BYTES: usize = 64;
 
 /// How much of what a link allows.
 #[derive(Clone, Copy)]
@@ -53,13 +60,17 @@ impl TableRoom {
     }
 }
 
-/// Memory for reading one file: its section headers and its tables; and the names of the members
-/// that were taken.
+/// Memory for reading one file: its headers, 64 bytes for each, and its tables; and the names of the
+/// members that were taken.
 #[derive(Drop)]
 pub struct LinkRoom {
-    pub(crate) headers: HeaderBuffer,
+    /// The most section headers of a file, and the most program headers.
+    pub(crate) headers: u16,
+    pub(crate) header_bytes: Vec<u8>,
     pub(crate) tables: TableRoom,
     pub(crate) names: NamesOfMembers,
+    pub ghost some: { 1 ≤ headers },
+    pub ghost permitted: { headers ≤ 65279 },
 }
 
 impl LinkRoom {
@@ -67,11 +78,46 @@ impl LinkRoom {
     ///
     /// # Errors
     /// Out of memory.
-    pub fn new(alloc: Global, caps: &LinkCaps) -> Result<LinkRoom, AllocError> {
+    pub fn new(alloc: Global, caps: &LinkCaps) -> Result<LinkRoom, AllocError>
+        ensures { IfOk result (λ room. room.headers ≡ caps.now.headers) }
+    {
+        let headers = caps.headers;
+        let header_bytes = Vec::with_capacity(alloc, HEADER_BYTES * headers as usize)?;
+        let tables = TableRoom::new(alloc, caps)?;
+        let names = NamesOfMembers::new(alloc, caps.rows)?;
         Ok(LinkRoom {
-            headers: HeaderBuffer::new(alloc, caps.headers)?,
-            tables: TableRoom::new(alloc, caps)?,
-            names: NamesOfMembers::new(alloc, caps.rows)?,
+            headers,
+            header_bytes,
+            tables,
+            names,
         })
     }
+}
+
+/// Returns how many slots a store of a file's headers has: as many as section headers, or program
+/// headers if these are more, but at most those that are allowed and at least one.
+pub(crate) fn slots_for(allowed: u16, header: &Ehdr) -> u16
+    ensures slots { result ≡ slots_of allowed header.now.e_shnum header.now.e_phnum }
+    ensures some { 1 ≤ result }
+    ensures allowed { 1 ≤ allowed → result ≤ allowed }
+{
+    allowed.min(header.e_shnum.max(header.e_phnum)).max(1)
+}
+
+/// Appends zeros up to the bytes of so many slots, if there are fewer. Nothing is allocated.
+///
+/// # Errors
+/// There is no room for them.
+pub(crate) fn reach_slots(bytes: &mut Vec<u8>, slots: u16) -> Result<(), LinkFault>
+    ensures reaches { IfOk result (λ _. 64 * slots ≤ vec_len bytes.new) }
+    ensures limit { IfErr result (IsLinkFault None) }
+{
+    let size = HEADER_BYTES * slots as usize;
+    if bytes.capacity() < size {
+        return refused(0, LinkCause::TooManyKeys);
+    }
+    if bytes.len() < size {
+        bytes.resize(size, 0).unwrap();
+    }
+    Ok(())
 }

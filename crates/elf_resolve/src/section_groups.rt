@@ -1,15 +1,30 @@
 //! The section groups and the link-once sections of an object.
-ghost use Rattle.std.specs.Prelude.{◌<◌};
+ghost use Rattle.std.specs.Prelude.{◌≡◌, ◌≢◌, ◌<◌, ◌++◌, ℕ, List, [], Some};
+ghost use Rattle.elf_model.specs.Checks.{whole_checks_of};
+ghost use Rattle.elf_model.specs.LinkSymbols.{is_link_once};
+ghost use Rattle.elf_model.specs.Records.{e_shnum, section_at, sh_type};
+ghost use Rattle.elf_model.specs.Tables.{linked_at};
+ghost use Rattle.elf_record.specs.Shdr.{IsShdr};
+ghost use Rattle.elf_source.specs.Prelude.{KeepsSource};
+ghost use Rattle.elf_table.specs.Load.{HoldsSectionHeaders};
+ghost use Rattle.elf_table.specs.Views.{ChecksDecide};
+ghost use Rattle.elf_resolve.specs.ObjectTables.{HoldsSymbols, HoldsTables};
+ghost use Rattle.elf_resolve.specs.SectionGroups.{DropsGroups, FindsGroup, FoundGroup, HoldsDropped};
+ghost use Rattle.elf_resolve.specs.SectionGroups.{MakesGroup, ReadsLinked, SignsGroup, TakesSection};
+ghost use Rattle.elf_resolve.specs.SectionGroups.{group_word, is_one_kept, sections_of_words};
+ghost use Rattle.elf_resolve.specs.SectionMarks.{MarksDropped};
+ghost use Rattle.elf_resolve.specs.StringBuffers.{KeptTexts};
 
 use crate::link_faults::{LinkFault, file_refused, full};
 use crate::object::{ObjectTables, SymbolRows, read_names, read_rows, symbol_in};
 use crate::section_marks::SectionMarks;
-use crate::string_buffer::{HeldText, NO_TEXT, StringBuffer, part_of};
+use crate::section_names::section_name;
+use crate::string_buffer::{HeldText, StringBuffer, part_of};
 use crate::table::KeyTable;
 use elf_record::numbers::{SHT_GROUP, STT_SECTION};
-use elf_record::{Cause, word};
+use elf_record::{Cause, Shdr, word};
 use elf_source::{Counted, Source};
-use elf_table::{Names, SectionView, Table, checked_rows};
+use elf_table::{Fault, Names, SectionView, Table, is_out_of_bounds, refused};
 
 /// The flag of a group of which one is kept (gABI 4, Section Groups).
 const GRP_COMDAT: u32 = 1;
@@ -23,16 +38,28 @@ const WORD_SIZE: usize = 4;
 /// What the name of a link-once section begins with.
 const LINK_ONCE: &[u8] = b".gnu.linkonce.";
 
-/// A section group: its header's file offset, its words, the index of its symbol, the section of its
-/// symbol table, that table, and the names of that.
+/// A section group: its header's file offset, the file offset and the size of its words, the index
+/// of its symbol, the section of its symbol table, that table, and the names of that.
 #[derive(Clone, Copy)]
 struct GroupInFile {
     at: u64,
-    words: (u64, u64),
+    start: u64,
+    size: u64,
     index: u64,
     link: u32,
     table: Table,
     names: Names,
+}
+
+/// What is dropped for a section.
+#[derive(Clone, Copy)]
+enum Dropped {
+    /// Nothing: it is in no group, or one that is kept.
+    Nothing,
+    /// The section itself, which is a link-once section.
+    Section,
+    /// The sections in the words of a group.
+    Words(HeldText),
 }
 
 /// Drops the sections of each group whose signature is known, and each link-once section whose name
@@ -47,45 +74,105 @@ pub(crate) fn drop_groups<S: Source>(
     strings: &mut StringBuffer,
     marks: &mut SectionMarks,
     keys: &mut KeyTable<'_>,
-) -> Result<(), LinkFault> {
+) -> Result<(), LinkFault>
+    ensures keeps { KeepsSource src.old.seen src.new.seen }
+    ensures stays { KeptTexts strings.old strings.new }
+    ensures drops { (file : List ℕ) → src.old.seen.file ≡ Some file →
+        HoldsSectionHeaders file view.now.loaded view.now.store.now →
+        HoldsTables file strings.old.bytes tables → MarksDropped (e_shnum file) marks.old [] →
+        DropsGroups file keys.old keys.new marks.new result }
+{
     for section in 0..view.sections() {
-        if view.section(section).sh_type == SHT_GROUP {
-            let used = strings.used();
-            let words = dropped_words(src, view, tables, section, strings, keys)?;
-            drop_sections(words, strings, marks);
-            strings.forget_after(used);
-        } else {
-            take_link_once(view, tables, section, strings, marks, keys)?;
-        }
+        let used = strings.used();
+        let dropped = take_section(src, view, tables, section, strings, keys)?;
+        mark_dropped(dropped, section, strings, marks);
+        strings.forget_after(used);
     }
     Ok(())
 }
 
-/// Returns the words of a group, if one of its signature is known, and makes that known.
+/// Marks the sections that are dropped for a section.
+fn mark_dropped(dropped: Dropped, section: u16, strings: &StringBuffer, marks: &mut SectionMarks)
+    ensures { (count : ℕ) (before sections : List ℕ) →
+        HoldsDropped strings.now.bytes section dropped sections →
+        MarksDropped count marks.old before → MarksDropped count marks.new (before ++ sections) }
+{
+    match dropped {
+        Dropped::Nothing => {}
+        Dropped::Section => marks.drop_section(u32::from(section)),
+        Dropped::Words(words) => mark_words(strings.bytes(words), marks),
+    }
+}
+
+/// Marks the sections in the words of a group, after the first.
+fn mark_words(words: &[u8], marks: &mut SectionMarks)
+    ensures { (count : ℕ) (before : List ℕ) → MarksDropped count marks.old before →
+        MarksDropped count marks.new (before ++ sections_of_words words.now) }
+{
+    let count = words.len() / WORD_SIZE;
+    for index in 1..count {
+        if let Some(section) = word_in(words, index) {
+            marks.drop_section(section);
+        }
+    }
+}
+
+/// Returns what is dropped for a section, if its group or its name is known, and makes that known.
 ///
 /// # Errors
-/// Those of its words and its symbol; there is no room for its signature.
-fn dropped_words<S: Source>(
+/// Those of its group, or its name; there is no room for a signature.
+fn take_section<S: Source>(
     src: &mut Counted<S>,
     view: &SectionView<'_>,
     tables: ObjectTables,
     section: u16,
     strings: &mut StringBuffer,
     keys: &mut KeyTable<'_>,
-) -> Result<Option<HeldText>, LinkFault>
+) -> Result<Dropped, LinkFault>
     requires { section < view.now.store.now.loaded }
+    ensures keeps { KeepsSource src.old.seen src.new.seen }
+    ensures stays { KeptTexts strings.old strings.new }
+    ensures takes { (file : List ℕ) → src.old.seen.file ≡ Some file →
+        HoldsSectionHeaders file view.now.loaded view.now.store.now →
+        HoldsTables file strings.old.bytes tables →
+        TakesSection file section keys.old keys.new strings.new.bytes result }
+{
+    if view.section(section).sh_type == SHT_GROUP {
+        return take_group(src, view, tables, section, strings, keys);
+    }
+    take_link_once(view, tables, section, strings, keys)
+}
+
+/// Returns the words of a group, if one of its signature is known, and makes that known.
+///
+/// # Errors
+/// Those of its words and its symbol; there is no room for its signature.
+fn take_group<S: Source>(
+    src: &mut Counted<S>,
+    view: &SectionView<'_>,
+    tables: ObjectTables,
+    section: u16,
+    strings: &mut StringBuffer,
+    keys: &mut KeyTable<'_>,
+) -> Result<Dropped, LinkFault>
+    requires { section < view.now.store.now.loaded }
+    ensures keeps { KeepsSource src.old.seen src.new.seen }
+    ensures stays { KeptTexts strings.old strings.new }
+    ensures takes { (file : List ℕ) → src.old.seen.file ≡ Some file →
+        HoldsSectionHeaders file view.now.loaded view.now.store.now →
+        HoldsTables file strings.old.bytes tables → sh_type file (section_at file section) ≡ 17 →
+        TakesSection file section keys.old keys.new strings.new.bytes result }
 {
     let group = group_at(view, section)?;
     let at = group.at;
-    let (place, size) = group.words;
-    let words = strings.read(src, place, size, at)?;
+    let words = strings.read(src, group.start, group.size, at)?;
     if !is_comdat(strings.bytes(words)) {
-        return Ok(None);
+        return Ok(Dropped::Nothing);
     }
-    let name = signature(src, view, tables, group, strings)?;
+    let name = signature(src, view, tables, &group, strings)?;
     match keys.drop_group(strings.bytes(name), false) {
-        Ok(true) => Ok(Some(words)),
-        Ok(false) => Ok(None),
+        Ok(true) => Ok(Dropped::Words(words)),
+        Ok(false) => Ok(Dropped::Nothing),
         Err(fault) => Err(full(at, fault)),
     }
 }
@@ -93,26 +180,39 @@ fn dropped_words<S: Source>(
 /// Returns the group of a section.
 ///
 /// # Errors
-/// At the section's header: `SizeNotWhole` and `TableOutside` of its words, `BadLink` if it links to
-/// no symbol table; those of that table; `SymbolIndex` if that has no symbol of its index.
+/// At the section's header: `SizeNotWhole` and `TableOutside` of its words, `BadLink` if it links
+/// to no symbol table; those of that table; `SymbolIndex` if that has no symbol of its index.
 fn group_at(view: &SectionView<'_>, section: u16) -> Result<GroupInFile, LinkFault>
     requires { section < view.now.store.now.loaded }
+    ensures { (file : List ℕ) → HoldsSectionHeaders file view.now.loaded view.now.store.now →
+        FindsGroup file (section_at file section) result }
 {
     let header = view.section(section);
     let at = view.place(section);
-    let size = view.loaded.size();
-    let words = checked_rows(header.sh_offset, header.sh_size, WORD_SIZE as u64, size, at)?;
+    check_words(&header, view.loaded.size(), at)?;
     let linked = view.linked(section)?;
-    let Some((table, names)) = linked else {
+    let Some(symbols) = linked else {
         return file_refused(at, Cause::BadLink);
     };
+    group_of(&header, at, symbols)
+}
+
+/// Returns the group with a header at a file offset, by its symbol table.
+///
+/// # Errors
+/// `SymbolIndex` at the header if the table has no symbol of its index.
+fn group_of(header: &Shdr, at: u64, symbols: (Table, Names)) -> Result<GroupInFile, LinkFault>
+    ensures { MakesGroup header.now at symbols result }
+{
+    let (table, names) = symbols;
     let index = u64::from(header.sh_info);
     if index >= table.len() {
         return file_refused(at, Cause::SymbolIndex);
     }
     Ok(GroupInFile {
         at,
-        words: (words.at(), header.sh_size),
+        start: header.sh_offset,
+        size: header.sh_size,
         index,
         link: header.sh_link,
         table,
@@ -120,30 +220,39 @@ fn group_at(view: &SectionView<'_>, section: u16) -> Result<GroupInFile, LinkFau
     })
 }
 
+/// Checks the words of the group with a header in a file of `size` bytes. An empty group is checked
+/// too.
+///
+/// # Errors
+/// At the offset `at`: `SizeNotWhole` if they are not whole, `TableOutside` if they end past the
+/// end of the file.
+fn check_words(header: &Shdr, size: u64, at: u64) -> Result<(), Fault>
+    ensures { ChecksDecide
+        (whole_checks_of size header.now.sh_offset header.now.sh_size at 4) result }
+{
+    if header.sh_size % WORD_SIZE as u64 != 0 {
+        return refused(at, Cause::SizeNotWhole);
+    }
+    if is_out_of_bounds(size, header.sh_offset, header.sh_size) {
+        return refused(at, Cause::TableOutside);
+    }
+    Ok(())
+}
+
 /// Returns whether the first word of a group says that one of its signature is kept.
-fn is_comdat(words: &[u8]) -> bool {
+fn is_comdat(words: &[u8]) -> bool
+    ensures { result ≡ is_one_kept words.now }
+{
     match word_in(words, 0) {
         Some(flags) => flags & GRP_COMDAT != 0,
         None => false,
     }
 }
 
-/// Marks the sections in the words of a group that is dropped, after the first.
-fn drop_sections(words: Option<HeldText>, strings: &StringBuffer, marks: &mut SectionMarks) {
-    let Some(words) = words else {
-        return;
-    };
-    let bytes = strings.bytes(words);
-    let count = bytes.len() / WORD_SIZE;
-    for index in 1..count {
-        if let Some(section) = word_in(bytes, index) {
-            marks.drop_section(section);
-        }
-    }
-}
-
 /// Returns the word of an index, if there is one.
-fn word_in(words: &[u8], index: usize) -> Option<u32> {
+fn word_in(words: &[u8], index: usize) -> Option<u32>
+    ensures { result ≡ group_word words.now index }
+{
     let start = index.saturating_mul(WORD_SIZE);
     match part_of(words, start, WORD_SIZE).first_chunk() {
         Some(bytes) => Some(word(bytes)),
@@ -160,17 +269,43 @@ fn signature<S: Source>(
     src: &mut Counted<S>,
     view: &SectionView<'_>,
     tables: ObjectTables,
-    group: GroupInFile,
+    group: &GroupInFile,
     strings: &mut StringBuffer,
-) -> Result<HeldText, LinkFault> {
-    let (at, index) = (group.at, group.index);
+) -> Result<HeldText, LinkFault>
+    ensures keeps { KeepsSource src.old.seen src.new.seen }
+    ensures stays { KeptTexts strings.old strings.new }
+    ensures signs { (file : List ℕ) (at : ℕ) → src.old.seen.file ≡ Some file →
+        HoldsSectionHeaders file view.now.loaded view.now.store.now →
+        HoldsTables file strings.old.bytes tables → FoundGroup file at group.now →
+        SignsGroup file strings.new.bytes at result }
+{
     let symbols = linked_symbols(src, tables, group, strings)?;
+    symbol_name(view, tables, group, symbols, strings)
+}
+
+/// Returns the name of the symbol of a group, or of the section of that.
+///
+/// # Errors
+/// Those of the name, at the symbol or at the section's header.
+fn symbol_name(
+    view: &SectionView<'_>,
+    tables: ObjectTables,
+    group: &GroupInFile,
+    symbols: SymbolRows,
+    strings: &StringBuffer,
+) -> Result<HeldText, LinkFault>
+    ensures { (file : List ℕ) (at : ℕ) →
+        HoldsSectionHeaders file view.now.loaded view.now.store.now →
+        HoldsTables file strings.now.bytes tables → FoundGroup file at group.now →
+        HoldsSymbols file strings.now.bytes (linked_at file at) symbols →
+        SignsGroup file strings.now.bytes at result }
+{
+    let index = group.index;
     let place = symbols.place(index);
-    let (rows, names) = (symbols.rows, symbols.names);
-    let Some(fields) = symbol_in(strings.bytes(rows), index) else {
-        return file_refused(at, Cause::SymbolIndex);
+    let Some(fields) = symbol_in(strings.bytes(symbols.rows), index) else {
+        return file_refused(group.at, Cause::SymbolIndex);
     };
-    let name = strings.name(names, u64::from(fields.st_name), place)?;
+    let name = strings.name(symbols.names, u64::from(fields.st_name), place)?;
     if name.size == 0 && fields.kind() == STT_SECTION && fields.st_shndx < view.sections() {
         return section_name(view, tables, fields.st_shndx, strings);
     }
@@ -184,9 +319,15 @@ fn signature<S: Source>(
 fn linked_symbols<S: Source>(
     src: &mut Counted<S>,
     tables: ObjectTables,
-    group: GroupInFile,
+    group: &GroupInFile,
     strings: &mut StringBuffer,
-) -> Result<SymbolRows, LinkFault> {
+) -> Result<SymbolRows, LinkFault>
+    ensures keeps { KeepsSource src.old.seen src.new.seen }
+    ensures stays { KeptTexts strings.old strings.new }
+    ensures reads { (file : List ℕ) (at : ℕ) → src.old.seen.file ≡ Some file →
+        HoldsTables file strings.old.bytes tables → FoundGroup file at group.now →
+        ReadsLinked file strings.new.bytes at result }
+{
     if let Some(symbols) = tables.symbols {
         if u32::from(symbols.section) == group.link {
             return Ok(symbols);
@@ -205,25 +346,6 @@ fn linked_symbols<S: Source>(
     })
 }
 
-/// Returns the name of a section, which is empty if the object has no names of sections.
-///
-/// # Errors
-/// Those of the name, at the section's header.
-fn section_name(
-    view: &SectionView<'_>,
-    tables: ObjectTables,
-    section: u16,
-    strings: &StringBuffer,
-) -> Result<HeldText, LinkFault>
-    requires { section < view.now.store.now.loaded }
-{
-    let Some(names) = tables.sections else {
-        return Ok(NO_TEXT);
-    };
-    let index = u64::from(view.section(section).sh_name);
-    strings.name(names, index, view.place(section))
-}
-
 /// Drops a link-once section in no group whose name is known, or makes it known.
 ///
 /// # Errors
@@ -233,54 +355,29 @@ fn take_link_once(
     tables: ObjectTables,
     section: u16,
     strings: &StringBuffer,
-    marks: &mut SectionMarks,
     keys: &mut KeyTable<'_>,
-) -> Result<(), LinkFault>
+) -> Result<Dropped, LinkFault>
     requires { section < view.now.store.now.loaded }
+    ensures { (file : List ℕ) → HoldsSectionHeaders file view.now.loaded view.now.store.now →
+        HoldsTables file strings.now.bytes tables → sh_type file (section_at file section) ≢ 17 →
+        TakesSection file section keys.old keys.new strings.now.bytes result }
 {
     let name = section_name(view, tables, section, strings)?;
     let text = strings.bytes(name);
-    if view.section(section).sh_flags & SHF_GROUP != 0 || !text.starts_with(LINK_ONCE) {
-        return Ok(());
+    if !is_link_once(&view.section(section), text) {
+        return Ok(Dropped::Nothing);
     }
     match keys.drop_group(text, true) {
-        Ok(true) => {
-            marks.drop_section(u32::from(section));
-            Ok(())
-        }
-        Ok(false) => Ok(()),
+        Ok(true) => Ok(Dropped::Section),
+        Ok(false) => Ok(Dropped::Nothing),
         Err(fault) => Err(full(view.place(section), fault)),
     }
 }
 
-/// Notes the sections that are not dropped and that symbols are made of: those whose names are
-/// identifiers of C.
-///
-/// # Errors
-/// Those of a name, at the section's header; there is no room for it.
-pub(crate) fn note_sections(
-    view: &SectionView<'_>,
-    tables: ObjectTables,
-    strings: &StringBuffer,
-    marks: &SectionMarks,
-    keys: &mut KeyTable<'_>,
-) -> Result<(), LinkFault> {
-    for section in 0..view.sections() {
-        let name = section_name(view, tables, section, strings)?;
-        let text = strings.bytes(name);
-        if is_identifier(text) && !marks.is_dropped(u32::from(section)) {
-            if let Err(fault) = keys.note_section(text) {
-                return Err(full(view.place(section), fault));
-            }
-        }
-    }
-    Ok(())
-}
-
-/// Returns `true` if a name has letters, digits and underscores alone, at least one.
-fn is_identifier(name: &[u8]) -> bool {
-    !name.is_empty()
-        && name
-            .iter()
-            .all(|byte| byte.is_ascii_alphanumeric() || *byte == b'_')
+/// Returns `true` if a section with a header and a name is a link-once section, in no group.
+fn is_link_once(header: &Shdr, name: &[u8]) -> bool
+    ensures { (file : List ℕ) (at : ℕ) → IsShdr file at header.now →
+        result ≡ is_link_once file at name.now }
+{
+    header.sh_flags & SHF_GROUP == 0 && name.starts_with(LINK_ONCE)
 }

@@ -4,14 +4,14 @@ use crate::library::LibraryTables;
 use crate::library_symbols::{LibrarySymbol, library_symbol};
 use crate::link_faults::LinkFault;
 use crate::object::linked_header;
-use crate::room::{LinkRoom, TableRoom};
+use crate::room::{LinkRoom, TableRoom, reach_slots, slots_for};
 use crate::spare_keys::SpareKeys;
 use crate::string_buffer::StringBuffer;
 use crate::table::KeyTable;
 use elf_model::{KeyEntry, KeyState, SymbolRole};
 use elf_record::numbers::ET_DYN;
 use elf_source::{Counted, Source};
-use elf_table::{SectionView, load};
+use elf_table::{HeaderStore, SectionView, load};
 
 /// Adds a library of a row that is not needed to the lists of the keys that it defines.
 ///
@@ -25,7 +25,9 @@ pub(crate) fn offer_keys<S: Source>(
     row: u32,
 ) -> Result<(), LinkFault> {
     let head = linked_header(src, ET_DYN)?;
-    let mut store = room.headers.store_for(&head);
+    let slots = slots_for(room.headers, &head);
+    reach_slots(&mut room.header_bytes, slots)?;
+    let mut store = HeaderStore::over(&mut room.header_bytes, slots);
     let loaded = load(src, &mut store, &head)?;
     let view = SectionView {
         loaded,

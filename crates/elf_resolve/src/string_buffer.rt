@@ -1,5 +1,5 @@
 //! The tables of a file, read whole.
-ghost use Rattle.std.specs.Prelude.{◌≡◌, ◌+◌, ◌<◌, ◌≤◌, ◌==◌, ◌^◌, ◌++◌, IfOk, IfSome, IsTrue, List, [], ◌∷◌, ℕ, Some, drop, length, slice_index, take, vec_capacity};
+ghost use Rattle.std.specs.Prelude.{◌≡◌, ◌+◌, ◌<◌, ◌≤◌, ◌==◌, ◌^◌, ◌++◌, IfOk, IfSome, IsOk, IsSome, IsTrue, List, [], ◌∷◌, ℕ, Some, drop, length, slice_index, take, vec_capacity};
 ghost use Rattle.elf_model.specs.Bytes.{slice};
 ghost use Rattle.elf_model.specs.LinkSymbols.{AT};
 ghost use Rattle.elf_source.specs.Prelude.{KeepsSource};
@@ -87,6 +87,7 @@ impl StringBuffer {
         ensures stays { KeptTexts self.old self.new }
         ensures reads { (file : List ℕ) → src.old.seen.file ≡ Some file →
             ReadsText file at size self.old self.new result }
+        ensures empty { size ≡ 0 → IsOk result }
     {
         let start = self.bytes.len();
         let Some(end) = end_within(start, size, self.most) else {
@@ -189,7 +190,8 @@ fn append_sign(bytes: &mut Vec<u8>)
 
 /// Returns the index after `size` bytes from an index on, if there are so many of `most`.
 fn end_within(start: usize, size: u64, most: usize) -> Option<usize>
-    ensures { IfSome result (λ end. (end ≡ start + size) × (end ≤ most)) }
+    ensures end { IfSome result (λ end. (end ≡ start + size) × (end ≤ most)) }
+    ensures empty { start ≤ most → size ≡ 0 → IsSome result }
 {
     if start > most || size > (most - start) as u64 {
         return None;
@@ -211,7 +213,7 @@ pub(crate) fn part_of(bytes: &[u8], start: usize, size: usize) -> &[u8]
 }
 
 /// Returns the bytes from an index on; none past the end.
-fn after(bytes: &[u8], start: usize) -> &[u8]
+pub(crate) fn after(bytes: &[u8], start: usize) -> &[u8]
     ensures { result.now ≡ drop start bytes.now }
 {
     match bytes.split_at_checked(start) {
@@ -233,6 +235,7 @@ pub(crate) fn read_all<S: Source>(
     ensures keeps { KeepsSource src.old.seen src.new.seen }
     ensures reads { (file : List ℕ) → src.old.seen.file ≡ Some file →
         ReadsAll file at (length out.old) out.new result }
+    ensures empty { length out.old ≡ 0 → IsOk result }
 {
     let mut done: usize = 0;
     while done < out.len() {

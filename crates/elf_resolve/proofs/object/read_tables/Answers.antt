@@ -1,0 +1,10 @@
+-- The tables of an object are held, of which that of its symbols was read first.
+use Rattle.std.proofs.Common.{◌∙◌}
+use Rattle.elf_resolve.proofs.ObjectLaws.{tables_read}
+use Rattle.elf_resolve.proofs.object.read_tables.Goals as goal
+
+pub returns-clause-reads : goal.returns-clause-reads
+returns-clause-reads g c = λ file known held.
+    tables_read file c.read_first_symbols.new.strings.bytes c.read_section_names.new.strings.bytes c.in_ok-symbols.symbols c.in_ok-sections.sections
+    (c.in_ok-symbols.ensures.reads file known held) c.read_section_names.ensures.stays.first
+    (c.in_ok-sections.ensures.reads file (c.read_first_symbols.ensures.keeps.same_file ∙ known) held)

@@ -1,0 +1,38 @@
+-- An object is refused for its header or its section headers, or its sections are taken.
+use Rattle.std.proofs.Common.{ap, ◌∙◌}
+use Rattle.std.proofs.lemmas.Result.{err_from_is_err_and}
+use Rattle.elf_table.specs.Prelude.{StoreState}
+use Rattle.elf_resolve.specs.LinkFaults.{fault_of_table}
+use Rattle.elf_resolve.proofs.ObjectRefusals.{after_load, header_fault, load_fault, slots_read}
+use Rattle.elf_resolve.proofs.ObjectTaken.{object_fault, object_then}
+use Rattle.elf_resolve.proofs.object.take_object.Goals as goal
+
+pub returns-in_err-head-clause-takes : goal.returns-in_err-head-clause-takes
+returns-in_err-head-clause-takes g c = λ file known.
+    let headers = c.args.room.now.headers in
+    let p = err_from_is_err_and c.from_residual.result c.from_residual.ensures.1 in
+    rw (p.1, p.2) (object_fault file headers c.in_err-head.field-0.0 (header_fault file headers c.in_err-head.field-0.0 (c.in_err-head.ensures.reads file known)))
+
+pub returns-in_err-loaded-clause-takes : goal.returns-in_err-loaded-clause-takes
+returns-in_err-loaded-clause-takes g c = λ file known.
+    let headers = c.args.room.now.headers in
+    let read = c.in_ok-head.ensures.reads file known in
+    let slots = slots_read file c.in_ok-head.head headers c.slots_for-slots.result read.1 c.slots_for-slots.ensures.slots in
+    let here = c.load.ensures.slots ∙ ap (λ (s : StoreState). s.slots) c.over-store.ensures ∙ slots in
+    let file_then = c.linked_header.ensures.keeps.same_file ∙ known in
+    let p = err_from_is_err_and c.from_residual-in_err-loaded.result c.from_residual-in_err-loaded.ensures.1 in
+    rw (p.1, p.2)
+    (object_fault file headers (fault_of_table c.in_err-loaded.field-0.0)
+    (load_fault file headers c.load.new.store c.in_err-loaded.field-0.0 c.args.room.now.some read.0 here (c.in_err-loaded.ensures.held file file_then read.1)))
+
+pub returns-clause-takes : goal.returns-clause-takes
+returns-clause-takes g c = λ file known.
+    let headers = c.args.room.now.headers in
+    let read = c.in_ok-head.ensures.reads file known in
+    let slots = slots_read file c.in_ok-head.head headers c.slots_for-slots.result read.1 c.slots_for-slots.ensures.slots in
+    let here = c.load.ensures.slots ∙ ap (λ (s : StoreState). s.slots) c.over-store.ensures ∙ slots in
+    let file_then = c.linked_header.ensures.keeps.same_file ∙ known in
+    let held = c.in_ok-loaded.ensures.held file file_then read.1 in
+    object_then file headers c.args.row c.args.keys.now c.take_sections.new.keys c.take_sections.result
+    (after_load file headers c.load.new.store.slots c.args.room.now.some read.0 here held.passes)
+    (c.take_sections.ensures.takes file (c.load.ensures.reads.keeps.same_file ∙ file_then) held)
