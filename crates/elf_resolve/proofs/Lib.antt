@@ -24,6 +24,7 @@ pub mod KeyShownLaws
 pub mod ShownLaws
 pub mod LinkTextLaws
 pub mod FaultLaws
+pub mod MemberFaultLaws
 pub mod MemberWalks
 pub mod MemberOffsets
 pub mod MemberPasses
@@ -31,6 +32,8 @@ pub mod IndexLaws
 pub mod EntryNames
 pub mod IndexPasses
 pub mod IndexParts
+pub mod MemberTaking
+pub mod MemberNameLaws
 pub mod ObjectSymbolLaws
 pub mod ObjectLaws
 pub mod ObjectNameLaws

@@ -13,7 +13,7 @@ use Rattle.elf_model.specs.declared.causes.Cause.{Cause}
 use Rattle.elf_model.specs.declared.causes.Refusal.{Refusal}
 use Rattle.elf_model.specs.declared.link_states.LinkRefusal.{LinkRefusal}
 use Rattle.elf_model.proofs.Slices.{field-slice}
-use Rattle.elf_resolve.specs.MemberExtents.{ReadHeader, member_refused}
+use Rattle.elf_resolve.specs.MemberExtents.{ReadMemberHeader, member_refused}
 use Rattle.elf_resolve.specs.MemberWalks.{PassedMembers, PassesMembers}
 use Rattle.elf_resolve.specs.Taken.{IsLinkFault, WalkedMembers, WalksMembers, data_of, header_of}
 use Rattle.elf_resolve.specs.declared.link_faults.LinkFault.{LinkFault}
@@ -43,7 +43,7 @@ passes_begin file old = record {
 }
 
 -- the table of names, by a header
-table_by : (file header : List ℕ) (at : ℕ) → header ≡ slice file at 60 → is_name_table header 0 ≡ is_name_table file at
+pub table_by : (file header : List ℕ) (at : ℕ) → header ≡ slice file at 60 → is_name_table header 0 ≡ is_name_table file at
 table_by file header at is =
     rw is (ap (λ n. n == 0x2020202020202f2f && field (slice file at 60) 8 8 == 0x2020202020202020) (field-slice file at 60 0 8 (omega arith) ∙ ap (λ n. field file n 8) (add-zero at))
     ∙ ap (λ n. field file at 8 == 0x2020202020202f2f && n == 0x2020202020202020) (field-slice file at 60 8 8 (omega arith)))
@@ -57,7 +57,7 @@ one_table names None file header m are is = rw are (ap (λ t. if t then Some m.e
     chosen true = refl
     chosen false = refl
 
-pub passes_member : (file old now new header : List ℕ) (at : ℕ) (names after : Option FileRange) (extent : FileRange) → PassedSoFar file old now at names → ReadHeader file at header extent → at + 60 ≤ extent.at
+pub passes_member : (file old now new header : List ℕ) (at : ℕ) (names after : Option FileRange) (extent : FileRange) → PassedSoFar file old now at names → ReadMemberHeader file at header extent → at + 60 ≤ extent.at
     → new ≡ now ++ at ∷ [] → after ≡ names_passed names header extent → PassedSoFar file old new (padded_end at (extent.at + extent.size)) after
 passes_member file old now new header at names after extent p head past added named =
     let m : LinkMember = record { header = at; extent = extent } in

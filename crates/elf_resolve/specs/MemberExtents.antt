@@ -15,7 +15,7 @@ abbrev pub LiesAfterHeader : (at start size : ℕ) → Type 0
 LiesAfterHeader at start size = (at + 60 ≤ start) × (start + size < 2 ^ 63)
 
 -- A HEADER READ: the member's data are known by it
-pub record ReadHeader (file : List ℕ) (at : ℕ) (header : List ℕ) (extent : FileRange) : Type 0 where
+pub record ReadMemberHeader (file : List ℕ) (at : ℕ) (header : List ℕ) (extent : FileRange) : Type 0 where
   pub below : at < length file
   pub bytes : header ≡ slice file at 60
   pub data_are : member_data file at ≡ Ok extent
@@ -26,5 +26,5 @@ member_refused at (Ok extent) = None
 member_refused at (Err cause) = Some (record { at = at; cause = Refused cause })
 
 abbrev pub ReadsMemberHeader : List ℕ → (at : ℕ) → (header : List ℕ) → Result Place LinkFault → Type 0
-ReadsMemberHeader file at header (Ok place) = ReadHeader file at header (extent_of place)
+ReadsMemberHeader file at header (Ok place) = ReadMemberHeader file at header (extent_of place)
 ReadsMemberHeader file at header (Err fault) = length file < 2 ^ 63 → IsLinkFault (member_refused at (member_data file at)) fault
