@@ -42,3 +42,5 @@ pub mod GroupTakenLaws
 pub mod GroupFoundLaws
 pub mod SectionTakenLaws
 pub mod LinkedSymbolLaws
+pub mod MemberTaking
+pub mod MemberNameLaws

@@ -22,7 +22,7 @@ far_after xs i (suc distance) rises below =
     let next : i + (suc distance + 1) ≡ i + (distance + 1) + 1 = omega arith in
     omega (arith, far_after xs i distance rises (omega (arith, below)), rises (i + (distance + 1)) (omega (arith, below)), ap (λ n. get_or xs n 0) next)
 
-far : (xs : List ℕ) (i j : ℕ) → IsStrictlyIncreasing xs → i < j → j < length xs → get_or xs i 0 < get_or xs j 0
+pub far : (xs : List ℕ) (i j : ℕ) → IsStrictlyIncreasing xs → i < j → j < length xs → get_or xs i 0 < get_or xs j 0
 far xs i j rises order below =
     let there : i + ((j - i - 1) + 1) ≡ j = omega (arith, order) in
     omega (arith, far_after xs i (j - i - 1) rises (omega (arith, below, there)), ap (λ n. get_or xs n 0) there)
@@ -45,7 +45,7 @@ abbrev pub found_or_none : Result ℕ ℕ → Option ℕ
 found_or_none (Ok place) = Some place
 found_or_none (Err place) = None
 
-header_is : (members : List LinkMember) (k : ℕ) → k < length members → get_or (map header_of members) k 0 ≡ (get_or members k no_member).header
+pub header_is : (members : List LinkMember) (k : ℕ) → k < length members → get_or (map header_of members) k 0 ≡ (get_or members k no_member).header
 header_is members k below = get_or-map header_of members k no_member 0 below
 
 at_place : (members : List LinkMember) (at place : ℕ) → place < length members → ((k : ℕ) → k < place → (get_or members k no_member).header ≢ at) → (get_or members place no_member).header ≡ at

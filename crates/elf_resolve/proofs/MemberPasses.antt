@@ -43,7 +43,7 @@ passes_begin file old = record {
 }
 
 -- the table of names, by a header
-table_by : (file header : List ℕ) (at : ℕ) → header ≡ slice file at 60 → is_name_table header 0 ≡ is_name_table file at
+pub table_by : (file header : List ℕ) (at : ℕ) → header ≡ slice file at 60 → is_name_table header 0 ≡ is_name_table file at
 table_by file header at is =
     rw is (ap (λ n. n == 0x2020202020202f2f && field (slice file at 60) 8 8 == 0x2020202020202020) (field-slice file at 60 0 8 (omega arith) ∙ ap (λ n. field file n 8) (add-zero at))
     ∙ ap (λ n. field file at 8 == 0x2020202020202f2f && n == 0x2020202020202020) (field-slice file at 60 8 8 (omega arith)))

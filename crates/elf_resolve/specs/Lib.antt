@@ -10,6 +10,7 @@ pub mod ExamplesFiles
 pub mod LinkMembers
 pub mod MemberExtents
 pub mod MemberWalks
+pub mod MemberNames
 pub mod ArchiveIndexes
 pub mod Ranges
 pub mod Lines

@@ -1,6 +1,11 @@
 //! The names of the members that are taken.
-ghost use Rattle.std.specs.Prelude.{IfSome};
+ghost use Rattle.std.specs.Prelude.{◌≡◌, IfOk, IfSome, List, [], ℕ, Some, length, map};
+ghost use Rattle.std.specs.List.Sorted.{IsStrictlyIncreasing};
 ghost use Rattle.elf_archive.specs.Members.{IsInBounds, extent_of_names};
+ghost use Rattle.elf_model.specs.Prelude.{shown_as};
+ghost use Rattle.elf_source.specs.Prelude.{KeepsSource};
+ghost use Rattle.elf_resolve.specs.MemberExtents.{LiesAfterHeader};
+ghost use Rattle.elf_resolve.specs.MemberNames.{AppendsName, IsFirstFrom, NamesMember, ReadsMemberName, RowsAscend, name_of_row_in, place_in, row_of_place};
 
 use crate::link_faults::{LinkFault, file_refused, refused};
 use crate::string_buffer::{HeldText, NO_TEXT, part_of};
@@ -11,12 +16,10 @@ use elf_record::Cause;
 use elf_source::{Counted, Source};
 use elf_table::NameBuf;
 use std::alloc::{AllocError, Global};
+use std::marker::Model;
 
 /// How many bytes of a name are shown.
 const NAME_CAP: NameLimit = NameLimit { bytes: 4096 };
-
-/// Fewer than 2^64 names are bisected in this many steps.
-const STEPS: u32 = 64;
 
 /// The place of a name.
 #[derive(Clone, Copy)]
@@ -36,12 +39,26 @@ pub(crate) struct NamesOfMembers {
     name: NameBuf,
 }
 
+impl Model for NamesOfMembers {
+    ghost use Rattle.std.specs.Prelude.{List, length, map};
+    ghost use Rattle.std.specs.List.{All};
+    ghost use Rattle.elf_resolve.specs.MemberNames.{IsPlaceIn, RowName, name_at_place};
+
+    ghost Value = { List RowName };
+
+    ghost view = { λ n. map (name_at_place n.bytes.items) n.places.items };
+
+    ghost invariant = { λ n. All (IsPlaceIn (length n.bytes.items)) n.places.items };
+}
+
 impl NamesOfMembers {
     /// Creates room for the names of `rows` rows, which have 64 bytes each.
     ///
     /// # Errors
     /// Out of memory.
-    pub(crate) fn new(alloc: Global, rows: u32) -> Result<NamesOfMembers, AllocError> {
+    pub(crate) fn new(alloc: Global, rows: u32) -> Result<NamesOfMembers, AllocError>
+        ensures { IfOk result (λ names. names ≡ []) }
+    {
         let room = (rows as usize).saturating_mul(64);
         Ok(NamesOfMembers {
             places: Vec::with_capacity(alloc, rows as usize)?,
@@ -63,7 +80,13 @@ impl NamesOfMembers {
         names: Option<FileRange>,
         at: u64,
         row: u32,
-    ) -> Result<FileRange, LinkFault> {
+    ) -> Result<FileRange, LinkFault>
+        ensures keeps { KeepsSource src.old.seen src.new.seen }
+        ensures lies { IfOk result (λ extent. LiesAfterHeader at extent.at extent.size) }
+        ensures reads { (file : List ℕ) → src.old.seen.file ≡ Some file →
+            IfSome (extent_of_names names) (IsInBounds (length file)) →
+            ReadsMemberName file (extent_of_names names) at row self.old self.new result }
+    {
         let (extent, is_cut) = read_named(src, names, at, &mut self.name)?;
         if self.places.len() >= self.most {
             return refused(at, LinkCause::TooManyRows);
@@ -73,66 +96,68 @@ impl NamesOfMembers {
         let Some(name) = append(&mut self.bytes, bytes, room) else {
             return refused(at, LinkCause::TooManyRows);
         };
-        let _ = self.places.push(NamePlace { row, name, is_cut });
+        if self.places.push(NamePlace { row, name, is_cut }).is_err() {
+            return refused(at, LinkCause::TooManyRows);
+        }
         Ok(extent)
     }
 
     /// Returns the name of the member of a row, and whether it has more bytes than are shown.
-    pub(crate) fn name(&self, row: u32) -> (&[u8], bool) {
-        let NamePlace { name, is_cut, .. } = self.place(row);
+    pub(crate) fn name(&self, row: u32) -> (&[u8], bool)
+        ensures { RowsAscend self.now →
+            shown_as result.1 result.0.now ≡ name_of_row_in self.now row }
+    {
+        let NamePlace { name, is_cut, .. } = place_of_row(&self.places, row);
         (part_of(&self.bytes, name.start, name.size), is_cut)
     }
+}
 
-    /// Returns the place of the name of a row, which is empty if it has none.
-    fn place(&self, row: u32) -> NamePlace {
-        let index = first_from(&self.places, row);
-        match self.places.get(index) {
-            Some(place) if place.row == row => *place,
-            _ => NamePlace {
-                row,
-                name: NO_TEXT,
-                is_cut: false,
-            },
-        }
+/// Returns the place of the name of a row, which is empty if it has none; places are in the order of
+/// their rows.
+fn place_of_row(places: &[NamePlace], row: u32) -> NamePlace
+    ensures { IsStrictlyIncreasing (map row_of_place places.now) →
+        result ≡ place_in places.now row }
+{
+    let index = first_from(places, row);
+    match places.get(index) {
+        Some(place) if place.row == row => *place,
+        _ => NamePlace {
+            row,
+            name: NO_TEXT,
+            is_cut: false,
+        },
     }
 }
 
 /// Appends a name, and returns its place; `None` if `room` bytes have no room for it.
-fn append(bytes: &mut Vec<u8>, name: &[u8], room: usize) -> Option<HeldText> {
+fn append(bytes: &mut Vec<u8>, name: &[u8], room: usize) -> Option<HeldText>
+    ensures { AppendsName bytes.old.items bytes.new.items name.now result }
+{
     let start = bytes.len();
     let size = name.len();
-    if size > room.saturating_sub(start) {
+    if size > room.saturating_sub(start) || bytes.extend_from_slice(name).is_err() {
         return None;
     }
-    let _ = bytes.extend_from_slice(name);
     Some(HeldText { start, size })
 }
 
 /// Returns the index of the first place of a row or a later one; places are in the order of their
 /// rows.
-fn first_from(places: &[NamePlace], row: u32) -> usize {
+fn first_from(places: &[NamePlace], row: u32) -> usize
+    ensures { IsStrictlyIncreasing (map row_of_place places.now) →
+        IsFirstFrom (map row_of_place places.now) row result }
+{
     let mut low = 0;
     let mut high = places.len();
-    for _ in 0..STEPS {
-        if low >= high {
-            break;
-        }
+    while low < high {
         let middle = low + (high - low) / 2;
-        if is_before(places, middle, row) {
+        if places[middle].row < row {
             low = middle + 1;
         } else {
             high = middle;
         }
     }
     low
-}
-
-/// Returns `true` if the place at an index is of an earlier row.
-fn is_before(places: &[NamePlace], index: usize, row: u32) -> bool {
-    match places.get(index) {
-        Some(place) => place.row < row,
-        None => false,
-    }
 }
 
 /// Reads the header and the name of the member at an offset, and returns its data, and whether the
@@ -145,7 +170,13 @@ fn read_named<S: Source>(
     names: Option<FileRange>,
     at: u64,
     name: &mut NameBuf,
-) -> Result<(FileRange, bool), LinkFault> {
+) -> Result<(FileRange, bool), LinkFault>
+    ensures keeps { KeepsSource src.old.seen src.new.seen }
+    ensures lies { IfOk result (λ read. LiesAfterHeader at read.0.at read.0.size) }
+    ensures reads { (file : List ℕ) → src.old.seen.file ≡ Some file →
+        IfSome (extent_of_names names) (IsInBounds (length file)) →
+        NamesMember file (extent_of_names names) at name.new result }
+{
     let length = src.length();
     if length >= 1 << 63 || at >= length {
         return file_refused(at, Cause::MemberCut);
@@ -159,7 +190,9 @@ fn read_named<S: Source>(
 
 /// Returns a range if it lies within a source.
 fn range_within<S: Source>(src: &Counted<S>, range: Option<FileRange>) -> Option<FileRange>
-    ensures { IfSome (extent_of_names result) (IsInBounds src.now.seen.size) }
+    ensures lies { IfSome (extent_of_names result) (IsInBounds src.now.seen.size) }
+    ensures same { IfSome (extent_of_names range) (IsInBounds src.now.seen.size) →
+        result ≡ range }
 {
     let length = src.length();
     let Some(range) = range else {

@@ -1,15 +1,19 @@
 //! The members of an archive, as objects of a link.
-ghost use Rattle.std.specs.Prelude.{◌≡◌, ◌↔◌, ◌-◌, ◌<◌, ◌∷◌, true, false, List, ℕ, Option, None, Some, IsSome, IsTrue, bytes_eq};
+ghost use Rattle.std.specs.Prelude.{◌≡◌, ◌↔◌, ◌-◌, ◌<◌, ◌∷◌, true, false, List, ℕ, Option, None, Some, IsSome, IsTrue, bytes_eq, ◌+◌, ◌≤◌, ◌||◌, IfOk, IfSome, OnErr, OnOk, Ok, get_or, length, map};
 ghost use Rattle.elf_model.specs.LinkPasses.{index_name, name_with_default};
 ghost use Rattle.elf_model.specs.LinkSymbols.{AT, defines_from, defines_if, is_that, link_name, symbol_table_in};
 ghost use Rattle.elf_model.specs.Tables.{SYMBOL_SIZE, entry_at};
 ghost use Rattle.elf_model.specs.declared.link_states.LinkRefusal.{LinkRefusal};
 ghost use Rattle.elf_source.specs.Prelude.{KeepsSource};
-ghost use Rattle.elf_resolve.specs.LinkMembers.{unknown_members};
+ghost use Rattle.elf_resolve.specs.LinkMembers.{unknown_members, KnownMembers, TakesMember, TellsFile, file_of_range, members_by_file, range_before};
 ghost use Rattle.elf_resolve.specs.ObjectNames.{FindsInObject, definition_at};
 ghost use Rattle.elf_resolve.specs.ObjectTables.{HoldsSymbols, HoldsTables};
 ghost use Rattle.elf_resolve.specs.StringBuffers.{HoldsText};
-ghost use Rattle.elf_resolve.specs.Taken.{FindsDefinition, IsLimit, IsLinkFault};
+ghost use Rattle.elf_resolve.specs.Taken.{FindsDefinition, IsLimit, IsLinkFault, header_of};
+ghost use Rattle.elf_archive.specs.Members.{extent_of, extent_of_names};
+ghost use Rattle.elf_model.specs.Archive.{is_name_table};
+ghost use Rattle.elf_model.specs.Bytes.{slice};
+ghost use Rattle.elf_model.specs.LinkArchives.{LinkFiles, is_archive_index, link_members, members_refusal};
 
 use crate::archive_index::is_index;
 use crate::archives::{OpenedArchive, member_cut, read_header_at};
@@ -48,7 +52,11 @@ pub(crate) struct MembersOfArchive<'r, S: Source> {
 ///
 /// # Errors
 /// There is no such member.
-fn place_of(members: &[u64], member: u32) -> Result<u64, LinkFault> {
+fn place_of(members: &[u64], member: u32) -> Result<u64, LinkFault>
+    ensures place { IfOk result (λ at. (member < length members.now)
+        × (at ≡ get_or members.now member 0)) }
+    ensures none { OnErr result (length members.now ≤ member) }
+{
     match members.get(member as usize) {
         Some(at) => Ok(*at),
         None => Err(member_cut(0)),
@@ -56,7 +64,9 @@ fn place_of(members: &[u64], member: u32) -> Result<u64, LinkFault> {
 }
 
 /// Returns the table of names, if it is before the header at a file offset.
-fn names_before(names: Option<FileRange>, at: u64) -> Option<FileRange> {
+fn names_before(names: Option<FileRange>, at: u64) -> Option<FileRange>
+    ensures { extent_of_names result ≡ range_before (extent_of_names names) at }
+{
     match names {
         Some(table) if table.at <= at => Some(table),
         _ => None,
@@ -71,7 +81,12 @@ pub(crate) fn is_file<S: Source>(
     src: &mut Counted<RangeSource<S>>,
     members: &[u64],
     member: u32,
-) -> Result<bool, LinkFault> {
+) -> Result<bool, LinkFault>
+    ensures whole { src.new.seen.whole ≡ src.old.seen.whole }
+    ensures tells { (file : List ℕ) → file_of_range src.old.seen ≡ Some file →
+        members_refusal file ≡ None → members.now ≡ map header_of (link_members file).members →
+        TellsFile file member result }
+{
     let at = place_of(members, member)?;
     src.widen();
     let mut header = [0; MEMBER_HEADER_BYTES];
@@ -80,7 +95,9 @@ pub(crate) fn is_file<S: Source>(
 }
 
 /// Returns `true` if a header is that of an index or of the table of names.
-fn is_no_file(header: &[u8; MEMBER_HEADER_BYTES]) -> bool {
+fn is_no_file(header: &[u8; MEMBER_HEADER_BYTES]) -> bool
+    ensures { result ≡ (is_archive_index header.now 0 || is_name_table header.now 0) }
+{
     is_index(header) || is_name_table(header)
 }
 
@@ -94,7 +111,16 @@ impl<S: Source> MembersOfArchive<'_, S> {
         member: u32,
         row: u32,
         keys: &mut KeyTable<'_>,
-    ) -> Result<(), LinkFault> {
+    ) -> Result<(), LinkFault>
+        ensures whole { self.new.src.now.seen.whole ≡ self.old.src.now.seen.whole }
+        ensures headers { self.new.room.now.headers ≡ self.old.room.now.headers }
+        ensures archive { self.new.archive ≡ self.old.archive }
+        ensures members { self.new.members.now ≡ self.old.members.now }
+        ensures takes { (files : LinkFiles) → files.headers ≡ self.old.room.now.headers →
+            (known : KnownMembers self.old.src.now.seen.whole self.old.members.now
+            (extent_of_names self.old.archive.names)) →
+            TakesMember files known.file member row keys.old keys.new result }
+    {
         let at = place_of(self.members, member)?;
         self.src.widen();
         let names = names_before(self.archive.names, at);
@@ -113,11 +139,16 @@ impl<S: Source> MembersOfArchive<'_, S> {
     ///
     /// # Errors
     /// Those of the member's header; it cannot be read, or there is no room for its tables.
-    fn member_defines(
-        &mut self,
-        entry: IndexEntry,
-        keys: &KeyTable<'_>,
-    ) -> Result<bool, LinkFault> {
+    fn member_defines(&mut self, entry: IndexEntry, keys: &KeyTable<'_>) -> Result<bool, LinkFault>
+        ensures whole { self.new.src.now.seen.whole ≡ self.old.src.now.seen.whole }
+        ensures headers { self.new.room.now.headers ≡ self.old.room.now.headers }
+        ensures archive { self.new.archive ≡ self.old.archive }
+        ensures members { self.new.members.now ≡ self.old.members.now }
+        ensures defines { (known : KnownMembers self.old.src.now.seen.whole self.old.members.now
+            (extent_of_names self.old.archive.names)) → IfOk result (λ is_defined. is_defined
+            ≡ (members_by_file (Some known.file) self.old.room.now.headers).defines entry.member
+            (index_name keys.now.keys entry)) }
+    {
         let at = place_of(self.members, entry.member)?;
         self.src.widen();
         let mut header = [0; MEMBER_HEADER_BYTES];
@@ -139,7 +170,13 @@ impl<S: Source> MembersOfArchive<'_, S> {
 fn narrow_to<S: Source>(
     src: &mut Counted<RangeSource<S>>,
     extent: FileRange,
-) -> Result<(), LinkFault> {
+) -> Result<(), LinkFault>
+    ensures whole { src.new.seen.whole ≡ src.old.seen.whole }
+    ensures narrows { (file : List ℕ) → file_of_range src.old.seen ≡ Some file →
+        OnOk result (src.new.seen.file ≡ Some (slice file extent.at extent.size)) }
+    ensures fails { (file : List ℕ) → file_of_range src.old.seen ≡ Some file →
+        OnErr result (length file < extent.at + extent.size) }
+{
     src.widen();
     let length = src.length();
     if extent.at > length || extent.size > length - extent.at {
@@ -150,9 +187,10 @@ fn narrow_to<S: Source>(
 }
 
 impl<S: Source> ArchiveObjects for MembersOfArchive<'_, S> {
-    ghost members = { unknown_members };
+    ghost members = { λ s. members_by_file (file_of_range s.src.now.seen) s.room.now.headers };
 
-    ghost known = { λ s. ⊥ };
+    ghost known = { λ s. KnownMembers s.src.now.seen.whole s.members.now
+        (extent_of_names s.archive.names) };
 
     fn take<'a>(&mut self, member: u32, row: u32, keys: &mut KeyTable<'a>) -> Result<(), LinkStop> {
         match self.take_member(member, row, keys) {
