@@ -7,6 +7,7 @@ use Rattle.elf_model.specs.LinkKeys.{LinkKeys}
 use Rattle.elf_model.specs.LinkLines.{FileNames, LinkOutput, file_front, is_missing, is_unresolved, link_fails, name_of_row, reason_front}
 use Rattle.elf_model.specs.LinkInputs.{Linking}
 use Rattle.elf_model.specs.Lines.{fault_line, named_line}
+use Rattle.elf_model.specs.Names.{DisplayedName}
 use Rattle.elf_model.specs.Names.DisplayedName.{Whole}
 use Rattle.elf_model.specs.declared.formats.Format.{Format}
 use Rattle.elf_model.specs.declared.link_states.LinkRow.{LinkRow}
@@ -17,7 +18,7 @@ use Rattle.elf_source.specs.declared.faults.OutFault.{OutFault}
 use Rattle.elf_source.proofs.PutsLaws.{SinkTakes-nothing, SinkTakes-then, SinkTakesPrefix-then, SinkTakesPrefix-more}
 use Rattle.elf_resolve.specs.LinkTexts.{WritesText}
 use Rattle.elf_resolve.specs.LinkerNames.{output_of}
-use Rattle.elf_resolve.specs.MemberNames.{RowName, RowsAscend}
+use Rattle.elf_resolve.specs.MemberNames.{RowName, RowsAscend, name_of_row_in}
 use Rattle.elf_resolve.specs.Resolved.{linking_of}
 use Rattle.elf_resolve.specs.ShownLinks.{ends_at_row, is_shown_row, lines_of_reason, lines_of_row, reason_shown, row_if_shown, row_shown, shown_end, shown_keys, shown_link, shown_rows, shown_status, status_if}
 use Rattle.elf_resolve.specs.StaticLinks.{AreRowsNamed, IsNameOfRow}
@@ -220,3 +221,12 @@ pub status_is : (link : Resolver) (missing fails : Bool) → missing ≡ list_an
 unfolding link_fails
 status_is link missing fails missing_is fails_is =
     ap (λ (b : Bool). status_if (b || fails)) missing_is ∙ ap (λ (b : Bool). status_if (list_any lacks_row link.link.rows.rows || b)) fails_is
+
+-- THE NAME that is held for the row of a member
+pub member_named : (text : ℕ → Option (List ℕ)) (names : FileNames) (held : List RowName) (index input number : ℕ) (member : Option ℕ) (shown : DisplayedName) → member ≡ Some number → IsNameOfRow text names held index input member
+    → shown ≡ name_of_row_in held index → shown ≡ name_of_row names input member
+member_named text names held index input number member shown is named same =
+    same ∙ sym (subst (λ (m : Option ℕ). IsNameOfRow text names held index input m) is named) ∙ ap (name_of_row names input) (sym is)
+
+pub puts_as : {X : Type 0} (a b : OutState) (result : Result X OutFault) (xs ys : List ℕ) → xs ≡ ys → OutPuts a b result xs → OutPuts a b result ys
+puts_as a b result xs ys same puts = subst (λ (text : List ℕ). OutPuts a b result text) same puts
