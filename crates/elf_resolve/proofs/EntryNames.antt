@@ -14,7 +14,7 @@ use Rattle.elf_model.proofs.Nuls.{some-free}
 use Rattle.elf_resolve.specs.ArchiveIndexes.{EndedName}
 use Rattle.elf_resolve.specs.StringBuffers.{FindsText, HoldsText}
 use Rattle.elf_resolve.specs.declared.link_faults.LinkFault.{LinkFault}
-use Rattle.elf_resolve.specs.declared.link_faults.LinkFault.TheVariants.{Refused, Read, Open}
+use Rattle.elf_resolve.specs.declared.link_faults.LinkFault.TheVariants.{Refused, Read, Open, Memory}
 use Rattle.elf_resolve.specs.declared.string_buffer.HeldText.{HeldText}
 use Rattle.elf_resolve.proofs.StringBufferLaws.{held_size}
 
@@ -67,6 +67,7 @@ unended_by None buffer is index at f below found none = none
 unended_by (Some end) buffer is index at (Refused refusal) below found ends = absurd (let named = named_at is index at end below ends in cc)
 unended_by (Some end) buffer is index at Read below found ends = absurd found
 unended_by (Some end) buffer is index at Open below found ends = absurd found
+unended_by (Some end) buffer is index at Memory below found ends = absurd found
 
 pub unended_name : (buffer is : List ℕ) (index at : ℕ) (f : LinkFault) → index < length is → FindsText buffer is index at (Err f) → nul_in (drop index is) ≡ None
 unended_name buffer is index at f below found = unended_by (nul_in (drop index is)) buffer is index at f below found refl

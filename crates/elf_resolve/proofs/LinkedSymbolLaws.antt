@@ -20,7 +20,7 @@ use Rattle.elf_resolve.specs.SectionGroups.{FindsSectionName, FoundGroup, SignsG
 use Rattle.elf_resolve.specs.StringBuffers.{FindsText, HoldsText, ReadText, TableTexts}
 use Rattle.elf_resolve.specs.Taken.{IsLinkFault}
 use Rattle.elf_resolve.specs.declared.link_faults.LinkFault.{LinkFault}
-use Rattle.elf_resolve.specs.declared.link_faults.LinkFault.TheVariants.{Refused, Read, Open}
+use Rattle.elf_resolve.specs.declared.link_faults.LinkFault.TheVariants.{Refused, Read, Open, Memory}
 use Rattle.elf_resolve.specs.declared.section_groups.GroupInFile.{GroupInFile}
 use Rattle.elf_resolve.specs.declared.string_buffer.HeldText.{HeldText}
 use Rattle.elf_resolve.proofs.GroupFoundLaws.{linked_passes}
@@ -70,6 +70,7 @@ sign_fault file bytes at index place (Refused refusal) is there found =
     inr (ap refusal_of (signed-by file at (Err refusal) (ap (λ i. link_name (strings_of file (linked_at file at)) i (symbol_at file at)) (sym is) ∙ ap (link_name (strings_of file (linked_at file at)) index) (sym there) ∙ found)))
 sign_fault file bytes at index place Read is there found = absurd found
 sign_fault file bytes at index place Open is there found = absurd found
+sign_fault file bytes at index place Memory is there found = absurd found
 
 signed_some : (file : List ℕ) (at : ℕ) (byte : ℕ) (name : List ℕ) → signature_by file at (Ok (byte ∷ name)) ≡ Ok (byte ∷ name)
 signed_some file at byte name = refl
@@ -113,6 +114,7 @@ sign_section file bytes at index place section text result is there which found 
     by_result (Err (Refused refusal)) same named = inr (ap refusal_of (same ∙ named))
     by_result (Err Read) same named = absurd named
     by_result (Err Open) same named = absurd named
+    by_result (Err Memory) same named = absurd named
 
 -- THE SYMBOL of the group is in the table that is held
 take_again : (n : ℕ) (xs : List ℕ) → take (length (take n xs)) xs ≡ take n xs

@@ -15,7 +15,7 @@ use Rattle.elf_resolve.specs.SectionGroups.{FindsSectionName, HoldsDropped, grou
 use Rattle.elf_resolve.specs.SectionMarks.{MarksDropped}
 use Rattle.elf_resolve.specs.StringBuffers.{FindsText, HoldsText}
 use Rattle.elf_resolve.specs.declared.link_faults.LinkFault.{LinkFault}
-use Rattle.elf_resolve.specs.declared.link_faults.LinkFault.TheVariants.{Refused, Read, Open}
+use Rattle.elf_resolve.specs.declared.link_faults.LinkFault.TheVariants.{Refused, Read, Open, Memory}
 use Rattle.elf_resolve.specs.declared.section_groups.Dropped.{Dropped}
 use Rattle.elf_resolve.specs.declared.section_groups.Dropped.TheVariants.{Nothing, Section, Words}
 use Rattle.elf_resolve.specs.declared.string_buffer.HeldText.{HeldText}
@@ -73,6 +73,7 @@ section_name-at file bytes at index names (Err (Refused refusal)) held is found 
     section_link_name-is file at held.some ∙ ap (λ i. link_name (section_bytes file (section_at file (e_shstrndx file))) i at) (sym is) ∙ found
 section_name-at file bytes at index names (Err Read) held is found = found
 section_name-at file bytes at index names (Err Open) held is found = found
+section_name-at file bytes at index names (Err Memory) held is found = found
 
 pub section_name-found : (file bytes : List ℕ) (at place index : ℕ) (names : HeldText) (result : Result HeldText LinkFault) → HoldsNames file bytes names → index ≡ sh_name file at → place ≡ at
     → FindsText bytes (section_bytes file (section_at file (e_shstrndx file))) index place result → FindsSectionName file bytes at result

@@ -13,7 +13,7 @@ use Rattle.elf_resolve.specs.KeyTables.{KeyList, NotedSection}
 use Rattle.elf_resolve.specs.SectionGroups.{FindsSectionName, NotedName, NotedSections, named_sections}
 use Rattle.elf_resolve.specs.Taken.{IsLinkFault}
 use Rattle.elf_resolve.specs.declared.link_faults.LinkFault.{LinkFault}
-use Rattle.elf_resolve.specs.declared.link_faults.LinkFault.TheVariants.{Refused, Read, Open}
+use Rattle.elf_resolve.specs.declared.link_faults.LinkFault.TheVariants.{Refused, Read, Open, Memory}
 use Rattle.elf_resolve.proofs.FollowedLaws.{followed_all, followed_fault, followed_more, followed_none}
 
 -- A REFUSED NAME
@@ -21,6 +21,7 @@ pub name_fault : (file bytes : List ℕ) (section : ℕ) (fault : LinkFault) →
 name_fault file bytes section (Refused refusal) found = inr (ap (λ r. refusal_of (section_named section r)) found)
 name_fault file bytes section Read found = absurd found
 name_fault file bytes section Open found = absurd found
+name_fault file bytes section Memory found = absurd found
 
 -- A NAME that is no identifier, that of a section that is dropped, and another
 named-by : (file : List ℕ) (section : ℕ) (name : List ℕ) (test : Bool) → section_link_name file (section_at file section) ≡ Ok name → is_identifier name ≡ test

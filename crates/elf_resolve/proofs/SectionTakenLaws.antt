@@ -16,7 +16,7 @@ use Rattle.elf_resolve.specs.SectionGroups.{FindsGroup, FindsSectionName, FoundG
 use Rattle.elf_resolve.specs.StringBuffers.{HoldsText, ReadText, TableTexts}
 use Rattle.elf_resolve.specs.Taken.{IsLinkFault}
 use Rattle.elf_resolve.specs.declared.link_faults.LinkFault.{LinkFault}
-use Rattle.elf_resolve.specs.declared.link_faults.LinkFault.TheVariants.{Refused, Read, Open}
+use Rattle.elf_resolve.specs.declared.link_faults.LinkFault.TheVariants.{Refused, Read, Open, Memory}
 use Rattle.elf_resolve.specs.declared.section_groups.Dropped.{Dropped}
 use Rattle.elf_resolve.specs.declared.section_groups.Dropped.TheVariants.{Nothing, Section, Words}
 use Rattle.elf_resolve.specs.declared.section_groups.GroupInFile.{GroupInFile}
@@ -82,6 +82,7 @@ once_fault file bytes section (Refused refusal) kind found =
     inr (ap refusal_of (name_here file section kind) ∙ ap (λ r. refusal_of (group_named file (section_at file section) section r)) found)
 once_fault file bytes section Read kind found = absurd found
 once_fault file bytes section Open kind found = absurd found
+once_fault file bytes section Memory kind found = absurd found
 
 -- A GROUP: the bytes of its words
 section_length : (file : List ℕ) (at : ℕ) → sh_offset file at + sh_size file at ≤ length file → length (section_bytes file at) ≡ sh_size file at
@@ -105,6 +106,7 @@ pub group_fault : (file : List ℕ) (section : ℕ) (fault : LinkFault) → sh_t
 group_fault file section (Refused refusal) kind found = inr (ap refusal_of (group_here file section kind ∙ found))
 group_fault file section Read kind found = absurd found
 group_fault file section Open kind found = absurd found
+group_fault file section Memory kind found = absurd found
 
 pub group_none : (file : List ℕ) (section : ℕ) (group : GroupInFile) (words : List ℕ) → sh_type file (section_at file section) ≡ 17 → FoundGroup file (section_at file section) group
     → words ≡ section_bytes file (section_at file section) → is_one_kept words ≡ false → groups_at file section ≡ Ok []

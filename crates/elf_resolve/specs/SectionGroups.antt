@@ -17,7 +17,7 @@ use Rattle.elf_resolve.specs.SectionMarks.{MarksDropped}
 use Rattle.elf_resolve.specs.StringBuffers.{HoldsText}
 use Rattle.elf_resolve.specs.Taken.{IsLinkFault}
 use Rattle.elf_resolve.specs.declared.link_faults.LinkFault.{LinkFault}
-use Rattle.elf_resolve.specs.declared.link_faults.LinkFault.TheVariants.{Refused, Read, Open}
+use Rattle.elf_resolve.specs.declared.link_faults.LinkFault.TheVariants.{Refused, Read, Open, Memory}
 use Rattle.elf_resolve.specs.declared.object.SymbolRows.{SymbolRows}
 use Rattle.elf_resolve.specs.declared.section_groups.Dropped.{Dropped}
 use Rattle.elf_resolve.specs.declared.section_groups.Dropped.TheVariants.{Nothing, Section, Words}
@@ -44,6 +44,7 @@ FindsSectionName file bytes at (Ok text) = (name : List ℕ) × (section_link_na
 FindsSectionName file bytes at (Err (Refused refusal)) = section_link_name file at ≡ Err refusal
 FindsSectionName file bytes at (Err Read) = ⊥
 FindsSectionName file bytes at (Err Open) = ⊥
+FindsSectionName file bytes at (Err Memory) = ⊥
 
 -- A GROUP whose checks pass, or the refusal of the first that fails
 pub record FoundGroup (file : List ℕ) (at : ℕ) (group : GroupInFile) : Type 0 where
@@ -63,6 +64,7 @@ FindsGroup file at (Ok group) = FoundGroup file at group
 FindsGroup file at (Err (Refused refusal)) = group_in file at ≡ Err refusal
 FindsGroup file at (Err Read) = ⊥
 FindsGroup file at (Err Open) = ⊥
+FindsGroup file at (Err Memory) = ⊥
 
 -- a group by its header and its symbol table, which has its symbol or not
 abbrev pub group_by : Shdr → (at : ℕ) → TableRange × StringTableRange → GroupInFile
