@@ -131,9 +131,8 @@ class Object(ElfFile):
 
     def group(self, header):
         """The words of a group, and a call for its signature."""
-        if header.size:
-            refuse_where(header.size % 4, header.at, "size-not-whole")
-            header.check_inside()
+        refuse_where(header.size % 4, header.at, "size-not-whole")
+        header.check_inside()
         table = self.headers[header.link] if header.link < len(self.headers) else None
         refuse_where(table is None or table.type not in (SYMTAB, DYNSYM), header.at, "bad-link")
         strings = self.checked_symbols(table) if table.size else None
