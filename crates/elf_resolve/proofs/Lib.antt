@@ -11,3 +11,8 @@ pub mod LeftLaws
 pub mod KnownLaws
 pub mod GroupLaws
 pub mod StatedLaws
+pub mod PlaceLaws
+pub mod OpenedLaws
+pub mod ResolvedLaws
+pub mod TakenLaws
+pub mod StepLaws

@@ -15,3 +15,7 @@ pub mod StringBuffers
 pub mod Taken
 pub mod Resolved
 pub mod ObjectTables
+pub mod Plans
+pub mod LinkPlaces
+pub mod OpenedArchives
+pub mod ResolvedInputs

@@ -1,5 +1,7 @@
 -- What a link takes of files whose bytes are known, up to the first refusal.
-use Rattle.std.specs.Prelude.{ℕ, ◌≡◌, ◌⊎◌, ◌++◌, Bool, List, [], Option, None, Some, Result, Ok, Err, map, option_map}
+use Rattle.std.specs.Prelude.{⊤, ℕ, ◌≡◌, ◌⊎◌, ◌++◌, Bool, List, [], Option, None, Some, Result, Ok, Err, map, option_map}
+use Rattle.elf_archive.specs.Members.{extent_of_names}
+use Rattle.elf_archive.specs.declared.member.FileRange.{FileRange as Place}
 use Rattle.elf_model.specs.Archive.{FileRange}
 use Rattle.elf_model.specs.LinkArchives.{LinkMember, archive_index, link_members, members_refusal, name_table, refusal_of}
 use Rattle.elf_model.specs.LinkInputs.{IndexSymbol, index_entered}
@@ -50,8 +52,8 @@ pub record WalkedMembers (file : List ℕ) (old new : List ℕ) (names : Option 
   pub members : new ≡ old ++ map header_of (link_members file).members
   pub names_are : names ≡ option_map data_of (name_table file (link_members file).members)
 
-abbrev pub WalksMembers : List ℕ → (old new : List ℕ) → Result (Option FileRange) LinkFault → Type 0
-WalksMembers file old new (Ok names) = WalkedMembers file old new names
+abbrev pub WalksMembers : List ℕ → (old new : List ℕ) → Result (Option Place) LinkFault → Type 0
+WalksMembers file old new (Ok names) = WalkedMembers file old new (extent_of_names names)
 WalksMembers file old new (Err fault) = IsLinkFault (members_refusal file) fault
 
 -- AN INDEX READ: its names are keys, and its entries are appended

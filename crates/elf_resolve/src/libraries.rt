@@ -1,4 +1,5 @@
 //! The shared libraries of a link.
+ghost use Rattle.std.specs.Prelude.{◌≡◌, length};
 
 use crate::link_faults::{LinkFault, refused};
 use crate::string_buffer::{HeldText, part_of};
@@ -58,7 +59,9 @@ impl LibraryList {
     }
 
     /// Returns how many libraries there are.
-    pub(crate) fn len(&self) -> usize {
+    pub(crate) fn len(&self) -> usize
+        ensures { result ≡ length self.now.libraries.items }
+    {
         self.libraries.len()
     }
 

@@ -1,4 +1,5 @@
 //! The inputs of a link, and the files that they are.
+ghost use Rattle.std.specs.Prelude.{◌≡◌, ℕ, IfOk, List, Option, Some};
 
 use elf_source::Source;
 
@@ -57,17 +58,27 @@ pub enum OpenFault {
     Read,
 }
 
-/// The files of a link, by the indexes of its inputs.
+/// The files of a link, by the indexes of its inputs. What is promised of a file is promised if its
+/// bytes are known, as `file`, and of a path if it is, as `text`.
 pub trait InputFiles {
     /// A file that is read at offsets.
     type InputSource: Source + Drop;
+
+    ghost file: { Self → (input : ℕ) → Option (List ℕ) };
+
+    ghost text: { Self → (input : ℕ) → Option (List ℕ) };
 
     /// Opens the file of an input.
     ///
     /// # Errors
     /// It cannot be opened.
-    fn open(&mut self, input: u32) -> Result<Self::InputSource, OpenFault>;
+    fn open(&mut self, input: u32) -> Result<Self::InputSource, OpenFault>
+        ensures file { file self.new ≡ file self.old }
+        ensures text { text self.new ≡ text self.old }
+        ensures opens { (bytes : List ℕ) → file self.old input ≡ Some bytes →
+            IfOk result (λ source. (Self.InputSource.seen source).file ≡ Some bytes) };
 
     /// Returns the path of an input, or its argument if there is no file.
-    fn path(&self, input: u32) -> &[u8];
+    fn path(&self, input: u32) -> &[u8]
+        ensures { (bytes : List ℕ) → text self.now input ≡ Some bytes → result.now ≡ bytes };
 }

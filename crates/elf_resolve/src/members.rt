@@ -1,9 +1,14 @@
 //! The members of an archive, as objects of a link.
-ghost use Rattle.std.specs.Prelude.{◌≡◌, List, ℕ, Some};
+ghost use Rattle.std.specs.Prelude.{◌≡◌, ◌||◌, ◌∷◌, [], not, List, ℕ, IfOk, OnOk, Some, map};
+ghost use Rattle.std.specs.List.{slice_get};
+ghost use Rattle.elf_model.specs.Archive.{is_name_table};
 ghost use Rattle.elf_model.specs.LinkPasses.{index_name};
 ghost use Rattle.elf_source.specs.Prelude.{KeepsSource};
-ghost use Rattle.elf_resolve.specs.LinkMembers.{unknown_members};
-ghost use Rattle.elf_resolve.specs.Taken.{FindsDefinition};
+ghost use Rattle.elf_archive.specs.Members.{extent_of_names};
+ghost use Rattle.elf_model.specs.LinkArchives.{LinkMember, is_archive_index, link_members};
+ghost use Rattle.elf_resolve.specs.LinkMembers.{AreMembersKnown, members_known, whole_file};
+ghost use Rattle.elf_resolve.specs.Passing.{TookObject};
+ghost use Rattle.elf_resolve.specs.Taken.{FindsDefinition, header_of};
 
 use crate::archive_index::{INDEX_32, INDEX_64};
 use crate::archives::{OpenedArchive, member_cut, read_header_at};
@@ -68,7 +73,13 @@ pub(crate) fn is_file<S: Source>(
     src: &mut Counted<RangeSource<S>>,
     members: &[u64],
     member: u32,
-) -> Result<bool, LinkFault> {
+) -> Result<bool, LinkFault>
+    ensures below { src.new.seen.whole ≡ src.old.seen.whole }
+    ensures finds { (file : List ℕ) (m : LinkMember) → whole_file src.old.seen ≡ Some file →
+        members.now ≡ map header_of (link_members file).members →
+        slice_get (link_members file).members member ≡ Some m → IfOk result (λ is_taken. is_taken
+        ≡ not (is_archive_index file m.header || is_name_table file m.header)) }
+{
     let at = place_of(members, member)?;
     src.widen();
     let mut header = [0; MEMBER_HEADER_BYTES];
@@ -91,7 +102,16 @@ impl<S: Source> MembersOfArchive<'_, S> {
         member: u32,
         row: u32,
         keys: &mut KeyTable<'_>,
-    ) -> Result<(), LinkFault> {
+    ) -> Result<(), LinkFault>
+        ensures same_src { self.new.src.ghost_name ≡ self.old.src.ghost_name }
+        ensures same_room { self.new.room.ghost_name ≡ self.old.room.ghost_name }
+        ensures below { self.new.src.now.seen.whole ≡ self.old.src.now.seen.whole }
+        ensures headers { self.new.room.now.headers ≡ self.old.room.now.headers }
+        ensures takes { AreMembersKnown self.old.src.now.seen self.old.members.now
+            (extent_of_names self.old.archive.names) → OnOk result (TookObject
+            ((members_known (whole_file self.old.src.now.seen)
+            self.old.room.now.headers).objects member) keys.old keys.new row) }
+    {
         let at = place_of(self.members, member)?;
         self.src.widen();
         let names = names_before(self.archive.names, at);
@@ -147,9 +167,12 @@ fn narrow_to<S: Source>(
 }
 
 impl<S: Source> ArchiveObjects for MembersOfArchive<'_, S> {
-    ghost members = { unknown_members };
+    ghost members = { λ s. members_known (whole_file s.src.now.seen) s.room.now.headers };
 
-    ghost known = { λ s. ⊥ };
+    ghost known = { λ s. AreMembersKnown s.src.now.seen s.members.now
+        (extent_of_names s.archive.names) };
+
+    ghost kept = { λ s. s.src.ghost_name ∷ s.room.ghost_name ∷ s.room.now.headers ∷ [] };
 
     fn take<'a>(&mut self, member: u32, row: u32, keys: &mut KeyTable<'a>) -> Result<(), LinkStop> {
         match self.take_member(member, row, keys) {
