@@ -516,3 +516,7 @@ members_count file offsets names are = sym (ap length are.offsets_are ∙ length
 
 pub still_has : (file : List ℕ) (start now : Resolver) (archive : OpenedArchive) (made : Linking) → TookMembers start now made → HasMembers file start.tables.members.items archive → HasMembers file now.tables.members.items archive
 still_has file start now archive made took has = subst (λ (t : ArchiveTables). HasMembers file t.members.items archive) (sym took.tables) has
+
+pub on_ok_from : {T E : Type 0} → (P : Type 0) (r : Result T E) → P → OnOk r P
+on_ok_from P (Ok x) holds = holds
+on_ok_from P (Err e) holds = tt

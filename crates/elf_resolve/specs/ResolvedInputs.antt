@@ -4,7 +4,8 @@ use Rattle.std.specs.List.{slice_get}
 use Rattle.std.proofs.Math.ListN.{set}
 use Rattle.elf_archive.specs.Members.{extent_of_names}
 use Rattle.elf_model.specs.LinkArchives.{LinkFiles, files_as_inputs, link_members, members_refusal, name_table}
-use Rattle.elf_model.specs.LinkInputs.{Linking, file_row}
+use Rattle.elf_model.specs.LinkInputs.{Linking, argument_symbol, file_row}
+use Rattle.elf_model.specs.LinkKeys.{no_keys, symbols_taken}
 use Rattle.elf_model.specs.declared.link_states.LinkRow.{LinkRow}
 use Rattle.elf_model.specs.declared.link_states.LinkRowKind.TheVariants.{Archive}
 use Rattle.elf_resolve.specs.LinkMembers.{whole_file}
@@ -137,3 +138,19 @@ pub record OpenedGroup (old new : Resolver) (first : ℕ) : Type 0 where
 pub record TookAll (files : LinkFiles) (link : Resolver) (whole : Linking) : Type 0 where
   pub makes : linking_of link ≡ whole
   pub is_link : IsLink files link
+
+-- A LINK THAT HAS NOT BEGUN: nothing was taken, and no input was reached
+pub record IsFresh (link : Resolver) : Type 0 where
+  pub keys : link.link.keys.keys ≡ no_keys
+  pub rows : link.link.rows.rows ≡ []
+  pub archives : link.tables.archives.items ≡ []
+  pub members : link.tables.members.items ≡ []
+  pub taken : link.taken.items ≡ []
+  pub libraries : link.libraries.libraries.items ≡ []
+  pub groups : link.groups.items ≡ []
+  pub states : (input : ℕ) → is_new_input link.states.items input ≡ true
+
+-- names were asked for by arguments
+pub record Asked (old new : Resolver) (names : List (List ℕ)) : Type 0 where
+  pub same : new ≡ record old { link = record old.link { keys = new.link.keys } }
+  pub keys : new.link.keys.keys ≡ symbols_taken None old.link.keys.keys (map argument_symbol names)

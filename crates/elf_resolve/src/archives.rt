@@ -1,5 +1,5 @@
 //! The archives of a link: their members, and the entries of their indexes.
-ghost use Rattle.std.specs.Prelude.{◌≡◌, IfOk, List, ℕ, Some};
+ghost use Rattle.std.specs.Prelude.{◌≡◌, [], IfOk, List, ℕ, Some};
 ghost use Rattle.elf_source.specs.Prelude.{KeepsSource};
 ghost use Rattle.elf_resolve.specs.Taken.{WalksMembers};
 ghost use Rattle.elf_resolve.specs.MemberExtents.{LiesAfterHeader};
@@ -49,7 +49,10 @@ impl ArchiveTables {
     ///
     /// # Errors
     /// Out of memory.
-    pub(crate) fn new(alloc: Global, index: u32, rows: u32) -> Result<ArchiveTables, AllocError> {
+    pub(crate) fn new(alloc: Global, index: u32, rows: u32) -> Result<ArchiveTables, AllocError>
+        ensures { IfOk result (λ tables. (tables.archives.items ≡ [])
+            × (tables.members.items ≡ [])) }
+    {
         let most = index as usize;
         Ok(ArchiveTables {
             archives: Vec::with_capacity(alloc, rows as usize)?,

@@ -1,5 +1,5 @@
 //! The inputs of a link in their order.
-ghost use Rattle.std.specs.Prelude.{◌≡◌, ◌≢◌, ◌+◌, ◌<◌, ◌∷◌, [], false, ℕ, List, length, map, IfOk, OnOk, None, Some};
+ghost use Rattle.std.specs.Prelude.{◌≡◌, ◌≢◌, ◌+◌, ◌<◌, ◌∷◌, [], false, ℕ, List, length, map, IfOk, OnOk, None, Ok, Some};
 ghost use Rattle.std.specs.List.{slice_get};
 ghost use Rattle.std.proofs.Math.ListN.{set};
 ghost use Rattle.elf_model.specs.LinkArchives.{LinkFiles, files_as_inputs};
@@ -9,7 +9,7 @@ ghost use Rattle.elf_resolve.specs.LinkMembers.{whole_file};
 ghost use Rattle.elf_resolve.specs.LinkPlaces.{IsLinkAt, input_made, is_new_input};
 ghost use Rattle.elf_resolve.specs.Plans.{IsStaticPlan, planned_files, steps_of};
 ghost use Rattle.elf_resolve.specs.Resolved.{linking_of};
-ghost use Rattle.elf_resolve.specs.ResolvedInputs.{AddedRowOf, IsAtStep, IsLink, IsPlanned, OpenedGroup, TookAll, TookInput};
+ghost use Rattle.elf_resolve.specs.ResolvedInputs.{AddedRowOf, Asked, IsAtStep, IsFresh, IsLink, IsPlanned, OpenedGroup, TookAll, TookInput};
 
 use crate::archive_inputs::element_at;
 use crate::archives::ArchiveTables;
@@ -102,7 +102,9 @@ impl<'a> Resolver<'a> {
         output: OutputKind,
         steps: usize,
         bytes: &'a mut [u8],
-    ) -> Result<Resolver<'a>, AllocError> {
+    ) -> Result<Resolver<'a>, AllocError>
+        ensures { IfOk result IsFresh }
+    {
         let link = new_link(alloc, hasher, caps, bytes)?;
         let KeyLists {
             tables,
@@ -142,7 +144,10 @@ impl<'a> Resolver<'a> {
     ///
     /// # Errors
     /// There is no room for it.
-    pub fn ask(&mut self, name: &[u8]) -> Result<(), LinkFault> {
+    #[tactic(auto, unfolding(elf_model::specs::LinkKeys::symbol_taken))]
+    pub fn ask(&mut self, name: &[u8]) -> Result<(), LinkFault>
+        ensures { OnOk result (Asked self.old self.new (name.now ∷ [])) }
+    {
         match self.link.keys.use_name(name, ASKED, None) {
             Ok(()) => Ok(()),
             Err(fault) => Err(full(0, fault)),
@@ -158,14 +163,36 @@ impl<'a> Resolver<'a> {
         files: &mut F,
         asked: &[&str],
         plan: &LinkPlan,
-    ) -> Result<(), LinkFault> {
-        let taken = match self.take_all(files, asked, plan) {
-            Ok(()) => self.offer_libraries(files),
-            Err(fault) => Err(fault),
-        };
+    ) -> Result<(), LinkFault>
+        ensures { (inputs : LinkInputs) → IsFresh self.old →
+            IsStaticPlan (F.file files.old) plan.now → steps_of inputs ≡ plan.now.steps.items →
+            self.new.end ≡ None → OnOk result (linking_of self.new ≡ linked
+            (files_as_inputs (planned_files (F.file files.old) plan.now
+            self.old.room.headers)) (map (λ name. name.now) asked.now) inputs) }
+    {
+        let taken = self.take_all(files, asked, plan);
+        self.list_by_keys();
+        self.end_with(taken)
+    }
+
+    /// Lists by their keys what the lines of keys name, and marks the rows that those of faults
+    /// name.
+    fn list_by_keys(&mut self)
+        ensures { linking_of self.new ≡ linking_of self.old }
+    {
         self.chain_entries();
         self.chain_further();
         self.mark_problems();
+    }
+
+    /// Keeps the refusal at which a link ended, if it ended so.
+    ///
+    /// # Errors
+    /// A file cannot be opened or read.
+    fn end_with(&mut self, taken: Result<(), LinkFault>) -> Result<(), LinkFault>
+        ensures same { linking_of self.new ≡ linking_of self.old }
+        ensures ends { self.new.end ≡ None → OnOk result (taken ≡ Ok tt) }
+    {
         match taken {
             Ok(()) => Ok(()),
             Err(LinkFault::Refused(refusal)) => {
@@ -177,7 +204,7 @@ impl<'a> Resolver<'a> {
         }
     }
 
-    /// Enters the symbols that arguments ask for, and takes all inputs.
+    /// Takes all inputs, and lists the libraries that are not needed.
     ///
     /// # Errors
     /// The first fault.
@@ -186,7 +213,33 @@ impl<'a> Resolver<'a> {
         files: &mut F,
         asked: &[&str],
         plan: &LinkPlan,
-    ) -> Result<(), LinkFault> {
+    ) -> Result<(), LinkFault>
+        ensures { (inputs : LinkInputs) → IsFresh self.old →
+            IsStaticPlan (F.file files.old) plan.now → steps_of inputs ≡ plan.now.steps.items →
+            OnOk result (linking_of self.new ≡ linked
+            (files_as_inputs (planned_files (F.file files.old) plan.now
+            self.old.room.headers)) (map (λ name. name.now) asked.now) inputs) }
+    {
+        self.take_inputs(files, asked, plan)?;
+        self.offer_libraries(files)
+    }
+
+    /// Enters the symbols that arguments ask for, and takes all inputs.
+    ///
+    /// # Errors
+    /// The first fault.
+    fn take_inputs<F: InputFiles>(
+        &mut self,
+        files: &mut F,
+        asked: &[&str],
+        plan: &LinkPlan,
+    ) -> Result<(), LinkFault>
+        ensures { (inputs : LinkInputs) → IsFresh self.old →
+            IsStaticPlan (F.file files.old) plan.now → steps_of inputs ≡ plan.now.steps.items →
+            let all = planned_files (F.file files.old) plan.now self.old.room.headers in
+            OnOk result (TookAll all self.new
+            (linked (files_as_inputs all) (map (λ name. name.now) asked.now) inputs)) }
+    {
         self.ask_all(asked)?;
         self.take_steps(files, plan)
     }
@@ -206,7 +259,8 @@ impl<'a> Resolver<'a> {
             if place >= count {
                 return Ok(());
             }
-            place = self.take_step(files, plan, place, place + 1)?;
+            let after = self.take_step(files, plan, place, place + 1)?;
+            place = after;
         }
         Err(LinkFault::Read)
     }
@@ -215,7 +269,9 @@ impl<'a> Resolver<'a> {
     ///
     /// # Errors
     /// There is no room for one.
-    fn ask_all(&mut self, asked: &[&str]) -> Result<(), LinkFault> {
+    fn ask_all(&mut self, asked: &[&str]) -> Result<(), LinkFault>
+        ensures { OnOk result (Asked self.old self.new (map (λ name. name.now) asked.now)) }
+    {
         for name in asked {
             self.ask(name.as_bytes())?;
         }
