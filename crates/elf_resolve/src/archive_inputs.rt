@@ -15,15 +15,16 @@ ghost use Rattle.elf_resolve.specs.ResolvedInputs.{EntersIndex, IsArchiveAt, IsL
 ghost use Rattle.elf_resolve.specs.Taken.{header_of};
 
 use crate::archive_index::read_index;
-use crate::archives::{ArchiveTables, OpenedArchive};
+use crate::archive_searches::{
+    MemberPlace, add_marks, element_at, member_row, range_of, search_members, take_member,
+};
+use crate::archives::OpenedArchive;
 use crate::link_faults::{LinkFault, refused};
 use crate::link_files::InputFiles;
-use crate::members::{MembersOfArchive, is_file};
-use crate::passes::{ArchiveInput, Link, search_archive};
+use crate::members::is_file;
 use crate::resolver::{InputState, Resolver};
-use crate::room::LinkRoom;
-use crate::table::{KeyTable, LinkStop};
-use elf_model::{LinkCause, LinkRow, LinkRowKind};
+use crate::table::LinkStop;
+use elf_model::{LinkCause, LinkRowKind};
 use elf_source::{Counted, RangeSource, Source};
 
 impl Resolver<'_> {
@@ -302,160 +303,5 @@ impl Resolver<'_> {
         };
         let keys = &mut self.link.keys;
         take_member(src, &mut self.room, &self.tables, place, keys)
-    }
-}
-
-/// Adds marks of members that are not taken.
-///
-/// # Errors
-/// There is no room for them.
-fn add_marks(taken: &mut Vec<bool>, count: usize) -> Result<(), LinkFault>
-    ensures { OnOk result (taken.new.items ≡ taken.old.items ++ replicate count false) }
-{
-    for added in 0..count {
-        if taken.push(false).is_err() {
-            return refused(0, LinkCause::TooManyRows);
-        }
-    }
-    Ok(())
-}
-
-/// A member of an archive, and its row.
-#[derive(Clone, Copy)]
-struct MemberPlace {
-    archive: OpenedArchive,
-    member: u32,
-    row: u32,
-}
-
-/// Takes a member of an archive.
-///
-/// # Errors
-/// The first fault of the member.
-fn take_member<S: Source>(
-    src: &mut Counted<RangeSource<S>>,
-    room: &mut LinkRoom,
-    tables: &ArchiveTables,
-    place: MemberPlace,
-    keys: &mut KeyTable<'_>,
-) -> Result<(), LinkFault>
-    ensures below { src.new.seen.whole ≡ src.old.seen.whole }
-    ensures headers { room.new.headers ≡ room.old.headers }
-    ensures takes { (file : List ℕ) → whole_file src.old.seen ≡ Some file →
-        HasMembers file tables.now.members.items place.archive →
-        OnOk result (TookObject
-        (or_empty (object_of (member_bytes file (link_members file).members place.member)
-        room.old.headers)) keys.old keys.new place.row) }
-{
-    let members = range_of(&tables.members, place.archive.members);
-    let mut objects = MembersOfArchive {
-        src,
-        room,
-        archive: place.archive,
-        members,
-        fault: None,
-        asked: None,
-    };
-    objects.take_member(place.member, place.row, keys)
-}
-
-/// How a search of an archive ended: its result, and if a member cannot be read its fault, and the
-/// member, if it is one that is not taken.
-#[derive(Drop)]
-struct SearchEnd {
-    ended: Result<(), LinkStop>,
-    fault: Option<LinkFault>,
-    asked: Option<u32>,
-}
-
-/// Takes the members of an archive that its index asks for.
-fn search_members<S: Source>(
-    link: &mut Link<'_>,
-    room: &mut LinkRoom,
-    tables: &ArchiveTables,
-    taken: &mut [bool],
-    src: &mut Counted<RangeSource<S>>,
-    archive: OpenedArchive,
-) -> SearchEnd
-    ensures headers { room.new.headers ≡ room.old.headers }
-    ensures outside { IsRangeOf archive.members.0 archive.members.1 (length taken.old) →
-        SameOutside taken.old taken.new archive.members }
-    ensures searches { (file : List ℕ) → whole_file src.old.seen ≡ Some file →
-        HasMembers file tables.now.members.items archive →
-        IsRangeOf archive.members.0 archive.members.1 (length taken.old) →
-        IsRangeOf archive.entries.0 archive.entries.1 (length tables.now.entries.items) →
-        OnOk result.ended (pass_of link.new (elements_in taken.new archive.members)
-        ≡ archive_searched
-        (archive_in archive file room.old.headers)
-        (elements_in tables.now.entries.items archive.entries)
-        (pass_of link.old (elements_in taken.old archive.members))) }
-{
-    let members = range_of(&tables.members, archive.members);
-    let entries = range_of(&tables.entries, archive.entries);
-    let (start, end) = within(archive.members, taken.len());
-    let mut objects = MembersOfArchive {
-        src,
-        room,
-        archive,
-        members,
-        fault: None,
-        asked: None,
-    };
-    let input = ArchiveInput {
-        input: archive.input,
-        row: archive.row,
-    };
-    let ended = search_archive(link, input, &mut taken[start..end], entries, &mut objects);
-    let fault = objects.fault;
-    let asked = objects.asked;
-    SearchEnd {
-        ended,
-        fault,
-        asked,
-    }
-}
-
-/// Returns a range of indexes, or an empty one if it is none of so many elements.
-fn within(range: (usize, usize), count: usize) -> (usize, usize)
-    ensures is_range { IsRangeOf result.0 result.1 count }
-    ensures same { IsRangeOf range.0 range.1 count → result ≡ range }
-{
-    let (start, end) = range;
-    if start > end || end > count {
-        return (0, 0);
-    }
-    (start, end)
-}
-
-/// Returns the elements from an index to another; none if there are not so many.
-fn range_of<T>(elements: &[T], range: (usize, usize)) -> &[T]
-    ensures { IsRangeOf range.0 range.1 (length elements.now) →
-        result.now ≡ elements_in elements.now range }
-{
-    let (start, end) = within(range, elements.len());
-    &elements[start..end]
-}
-
-/// Returns the element of an index, if there is one.
-#[tactic(auto, using(std::proofs::lemmas::Option::slice_get_past, std::proofs::lemmas::Option::slice_get_read))]
-pub(crate) fn element_at<T: Copy>(elements: &[T], index: usize) -> Option<T>
-    ensures { result ≡ slice_get elements.now index }
-{
-    if index < elements.len() {
-        return Some(elements[index]);
-    }
-    None
-}
-
-/// Returns the row of a member that is taken for no key.
-fn member_row(archive: OpenedArchive, member: u32) -> LinkRow
-    ensures { result ≡ whole_row archive.input archive.row member }
-{
-    LinkRow {
-        kind: LinkRowKind::Member,
-        input: archive.input,
-        archive: Some(archive.row),
-        member: Some(member),
-        reason: None,
     }
 }

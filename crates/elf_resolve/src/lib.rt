@@ -8,10 +8,12 @@
 
 mod archive_index;
 mod archive_inputs;
+mod archive_searches;
 mod archives;
 mod asked_libraries;
 mod entry_chains;
 mod examples;
+mod first_inputs;
 mod key_chains;
 mod key_marks;
 mod key_states;
@@ -23,6 +25,7 @@ mod link_faults;
 mod link_files;
 mod link_laws;
 mod link_memory;
+mod link_steps;
 mod linker_names;
 mod member_names;
 mod members;

@@ -5,7 +5,7 @@ use Rattle.elf_model.specs.LinkPasses.{ArchiveMembers}
 use Rattle.elf_resolve.specs.LinkMembers.{whole_file}
 use Rattle.elf_resolve.specs.Passing.{TookObject}
 use Rattle.elf_resolve.proofs.ResolvedLaws.{members_of_file, range_has}
-use Rattle.elf_resolve.proofs.archive_inputs.take_member.Goals as goal
+use Rattle.elf_resolve.proofs.archive_searches.take_member.Goals as goal
 
 pub returns-clause-takes : goal.returns-clause-takes
 unfolding members_as_objects

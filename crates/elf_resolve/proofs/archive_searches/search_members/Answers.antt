@@ -1,6 +1,6 @@
 use Rattle.std.proofs.Common.{◌≡◌, ◌-◌, length, arith}
 use Rattle.elf_resolve.proofs.OpenedLaws.{outside_put}
-use Rattle.elf_resolve.proofs.archive_inputs.search_members.Goals as goal
+use Rattle.elf_resolve.proofs.archive_searches.search_members.Goals as goal
 
 pub returns-clause-outside : goal.returns-clause-outside
 returns-clause-outside g c = λ fits.
