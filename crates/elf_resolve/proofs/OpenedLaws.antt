@@ -1,5 +1,5 @@
 -- The archives of a link: how one is found, one more is added, and the members of one are taken.
-use Rattle.std.proofs.Common.{◌≡◌, ◌≢◌, ℕ, zero, suc, ◌+◌, ◌-◌, ◌<◌, ◌≤◌, Bool, true, false, List, [], ◌∷◌, ◌++◌, length, length-append, length-drop, map, take, drop, refl, sym, ap, subst, ◌∙◌, ◌⊎◌, inl, inr, eqb, append_assoc, zero-add, arith}
+use Rattle.std.proofs.Common.{◌≡◌, ◌≢◌, ℕ, zero, suc, ◌+◌, ◌-◌, ◌≤◌, Bool, true, false, List, [], ◌∷◌, ◌++◌, length, length-append, length-drop, map, take, drop, refl, sym, ap, subst, ◌∙◌, ◌⊎◌, inl, inr, eqb, append_assoc, zero-add, arith}
 use Rattle.std.specs.Prelude.{Option, None, Some, option_map, ◌==◌, if◌then◌else◌}
 use Rattle.std.specs.List.{slice_get}
 use Rattle.std.proofs.lemmas.Bool.{eq-eqb, eqb-true}
@@ -8,10 +8,10 @@ use Rattle.std.proofs.lemmas.List.{drop-append-le, drop-take, length-take, take-
 use Rattle.std.proofs.Math.Seq.{drop-append_seam}
 use borrow.Rule.Slice.PartMut.{post_of}
 use Rattle.elf_model.specs.LinkArchives.{LinkFiles}
-use Rattle.elf_model.specs.LinkInputs.{OpenArchive, opened_at, with_taken}
+use Rattle.elf_model.specs.LinkInputs.{opened_at, with_taken}
 use Rattle.elf_model.specs.declared.link_states.IndexEntry.{IndexEntry}
 use Rattle.elf_resolve.specs.KeyOrders.{AreDistinctInputs}
-use Rattle.elf_resolve.specs.OpenedArchives.{AreDistinctArchives, AreOpened, IsOpened, IsStateOf, SameOutside, archive_of_input}
+use Rattle.elf_resolve.specs.OpenedArchives.{AreDistinctArchives, AreOpened, IsOpenedArchive, IsInputState, SameOutside, archive_of_input}
 use Rattle.elf_resolve.specs.Resolved.{elements_in, open_archive}
 use Rattle.elf_resolve.specs.declared.archives.OpenedArchive.{OpenedArchive}
 use Rattle.elf_resolve.specs.declared.resolver.InputState.{InputState}
@@ -153,18 +153,18 @@ get_last : {A : Type 0} → (xs : List A) (y : A) → slice_get (xs ++ y ∷ [])
 get_last [] y = refl
 get_last (z ∷ xs) y = get_last xs y
 
-pub state_still : (s : Option InputState) (archives : List OpenedArchive) (b : OpenedArchive) (i : ℕ) → (b.input ≡ i → ⊥) → IsStateOf s archives i → IsStateOf s (archives ++ b ∷ []) i
+pub state_still : (s : Option InputState) (archives : List OpenedArchive) (b : OpenedArchive) (i : ℕ) → (b.input ≡ i → ⊥) → IsInputState s archives i → IsInputState s (archives ++ b ∷ []) i
 state_still None archives b i differ is = found_none archives b i differ is
 state_still (Some state.New) archives b i differ is = found_none archives b i differ is
 state_still (Some state.Done) archives b i differ is = found_none archives b i differ is
 state_still (Some (state.Archive index)) archives b i differ is = (is.0, get_more archives index b is.0 is.1, found_still archives b is.0 i is.2)
 state_still (Some (state.Library index)) archives b i differ is = is
 
-pub state_new : (archives : List OpenedArchive) (b : OpenedArchive) → archive_of_input archives b.input ≡ None → IsStateOf (Some (state.Archive (length archives))) (archives ++ b ∷ []) b.input
+pub state_new : (archives : List OpenedArchive) (b : OpenedArchive) → archive_of_input archives b.input ≡ None → IsInputState (Some (state.Archive (length archives))) (archives ++ b ∷ []) b.input
 state_new archives b none = (b, get_last archives b, found_new archives b none)
 
 -- archives of longer lists
-opened_more : (files : LinkFiles) (members more : List ℕ) (entries entries_after from : ℕ) (a : OpenedArchive) → entries ≤ entries_after → IsOpened files members entries from a → IsOpened files (members ++ more) entries_after from a
+opened_more : (files : LinkFiles) (members more : List ℕ) (entries entries_after from : ℕ) (a : OpenedArchive) → entries ≤ entries_after → IsOpenedArchive files members entries from a → IsOpenedArchive files (members ++ more) entries_after from a
 opened_more files members more entries entries_after from a less is = record {
   file = is.file;
   count = is.count;
@@ -188,7 +188,7 @@ all_more files members more entries entries_after from (a ∷ archives) less are
 
 -- and one more
 pub all_push : (files : LinkFiles) (members more : List ℕ) (entries entries_after from : ℕ) (archives : List OpenedArchive) (b : OpenedArchive) → entries ≤ entries_after → AreOpened files members entries from archives
-    → IsOpened files (members ++ more) entries_after (length members) b → AreOpened files (members ++ more) entries_after from (archives ++ b ∷ [])
+    → IsOpenedArchive files (members ++ more) entries_after (length members) b → AreOpened files (members ++ more) entries_after from (archives ++ b ∷ [])
 all_push files members more entries entries_after from [] b less are is = (
   record {
     file = is.file;
@@ -207,10 +207,10 @@ all_push files members more entries entries_after from (a ∷ archives) b less a
     (opened_more files members more entries entries_after from a less are.0, all_push files members more entries entries_after a.members.1 archives b less are.1 is)
 
 -- the archive that is found is opened
-pub found_opened : (files : LinkFiles) (members : List ℕ) (entries from : ℕ) (archives : List OpenedArchive) (i : ℕ) (a : OpenedArchive) → AreOpened files members entries from archives → archive_of_input archives i ≡ Some a → IsOpened files members entries from a
+pub found_opened : (files : LinkFiles) (members : List ℕ) (entries from : ℕ) (archives : List OpenedArchive) (i : ℕ) (a : OpenedArchive) → AreOpened files members entries from archives → archive_of_input archives i ≡ Some a → IsOpenedArchive files members entries from a
 found_opened files members entries from [] i a are found = absurd cc
 found_opened files members entries from (x ∷ archives) i a are found = by (x.input == i) (λ there. found_opened files members entries x.members.1 archives i a are.1 there) found where
-  later : IsOpened files members entries x.members.1 a → IsOpened files members entries from a
+  later : IsOpenedArchive files members entries x.members.1 a → IsOpenedArchive files members entries from a
   later is = record {
     file = is.file;
     count = is.count;
@@ -223,8 +223,8 @@ found_opened files members entries from (x ∷ archives) i a are found = by (x.i
     entries_within = is.entries_within;
   }
 
-  by : (here : Bool) → (archive_of_input archives i ≡ Some a → IsOpened files members entries x.members.1 a) → (if here then Some x else archive_of_input archives i) ≡ Some a → IsOpened files members entries from a
-  by true rest there = subst (λ o. IsOpened files members entries from o) (some_of x a there) are.0
+  by : (here : Bool) → (archive_of_input archives i ≡ Some a → IsOpenedArchive files members entries x.members.1 a) → (if here then Some x else archive_of_input archives i) ≡ Some a → IsOpenedArchive files members entries from a
+  by true rest there = subst (λ o. IsOpenedArchive files members entries from o) (some_of x a there) are.0
   by false rest there = later (rest there)
 
 -- MEMBERS OF ONE ARCHIVE ARE TAKEN: the others are what they were
@@ -250,7 +250,7 @@ one_taken es files members entries from (x ∷ archives) i a old new marks are d
     (λ none. none_taken es files members entries x.members.1 archives i old new marks x.members are.1 none) (λ there. found_opened files members entries x.members.1 archives i a are.1 there) found where
       by : (here : Bool) → (x.input == i) ≡ here → (archive_of_input archives i ≡ Some a → map (open_archive es new) archives ≡ with_taken (map (open_archive es old) archives) i marks)
           → (archive_of_input archives i ≡ None → SameOutside old new x.members → x.members.1 ≤ x.members.1 → map (open_archive es new) archives ≡ with_taken (map (open_archive es old) archives) i marks)
-          → (archive_of_input archives i ≡ Some a → IsOpened files members entries x.members.1 a) → (if here then Some x else archive_of_input archives i) ≡ Some a
+          → (archive_of_input archives i ≡ Some a → IsOpenedArchive files members entries x.members.1 a) → (if here then Some x else archive_of_input archives i) ≡ Some a
           → open_archive es new x ∷ map (open_archive es new) archives ≡ (if here then record (open_archive es old x) { taken = marks } else open_archive es old x) ∷ with_taken (map (open_archive es old) archives) i marks
       by true at rest others later there =
           let one : x ≡ a = some_of x a there in

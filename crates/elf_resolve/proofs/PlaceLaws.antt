@@ -1,14 +1,14 @@
 -- Where a link is among its steps: each step leads to the next.
 use Rattle.std.proofs.Common.{◌≡◌, ◌≢◌, ℕ, zero, suc, ◌+◌, ◌<◌, ◌≤◌, Bool, true, false, List, [], ◌∷◌, ◌++◌, length, length-append, length-drop, drop, refl, sym, ap, subst, ◌∙◌, ◌⊎◌, inl, inr, eqb, append_assoc, arith}
-use Rattle.std.specs.Prelude.{Option, None, Some, ◌==◌, if◌then◌else◌}
+use Rattle.std.specs.Prelude.{None, Some, ◌==◌}
 use Rattle.std.specs.List.{slice_get}
 use Rattle.std.proofs.lemmas.List.{append-nil}
 use Rattle.std.proofs.lemmas.Bool.Decides.{eqb_tells}
 use Rattle.elf_model.specs.LinkInputs.{InputFile, LinkInputs, Linking, group_settled, input_again, input_taken, inputs_again, inputs_taken}
 use Rattle.elf_model.specs.LinkInputs.LinkInputs.{NoInputs, Input, Group}
 use Rattle.elf_resolve.specs.KeyOrders.{AreDistinctInputs}
-use Rattle.elf_resolve.specs.LinkPlaces.{AreGroupsAt, AreRoundsAfter, EnteredGroup, IsGroupAt, IsLinkAt, IsReached, IsRoundAfter, IsRoundAt, groups_ended, input_made, inputs_made, steps_after}
-use Rattle.elf_resolve.specs.Plans.{AreDistinctSteps, steps_of}
+use Rattle.elf_resolve.specs.LinkPlaces.{AreGroupsAt, AreRoundsAfter, EnteredGroup, IsLinkAt, IsReached, IsRoundAfter, IsRoundAt, groups_ended, input_made, inputs_made, steps_after}
+use Rattle.elf_resolve.specs.Plans.{AreDistinctSteps, plan_steps}
 use Rattle.elf_resolve.specs.declared.link_files.LinkStep.{LinkStep}
 use Rattle.elf_resolve.specs.declared.link_files.LinkStep.TheVariants as step
 use Rattle.elf_resolve.specs.declared.resolver.OpenGroup.{OpenGroup}
@@ -52,8 +52,8 @@ reached_more steps is_new reached none is = record {
 rounds_more : (reached more count : ℕ) (groups : List EnteredGroup) → reached ≤ more → more + length (steps_after groups) ≤ count → AreRoundsAfter reached count groups → AreRoundsAfter more count groups
 rounds_more reached more count [] less within rounds = tt
 rounds_more reached more count (g ∷ groups) less within rounds = (
-  round_more g.again reached more count (length (steps_of g.rest)) (length (steps_after groups)) less (omega (arith, within, length-append (steps_of g.rest) (steps_after groups))) rounds.0,
-  rounds_more reached more count groups less (omega (arith, within, length-append (steps_of g.rest) (steps_after groups))) rounds.1,
+  round_more g.again reached more count (length (plan_steps g.rest)) (length (steps_after groups)) less (omega (arith, within, length-append (plan_steps g.rest) (steps_after groups))) rounds.0,
+  rounds_more reached more count groups less (omega (arith, within, length-append (plan_steps g.rest) (steps_after groups))) rounds.1,
 ) where
   round_more : (again : Bool) (reached more count here after : ℕ) → reached ≤ more → more + (here + after) ≤ count → IsRoundAfter again reached count here after → IsRoundAfter again more count here after
   round_more false reached more count here after less within round = within
@@ -79,14 +79,14 @@ stays_old is_new now index input old others was = by (eqb_tells input index) whe
 
 module _ (files : ℕ → InputFile) (whole : Linking) (steps : List LinkStep) where
   -- the first step
-  pub place_starts : (inputs : LinkInputs) (link : Linking) (is_new : ℕ → Bool) → steps_of inputs ≡ steps → inputs_taken files inputs link ≡ whole
+  pub place_starts : (inputs : LinkInputs) (link : Linking) (is_new : ℕ → Bool) → plan_steps inputs ≡ steps → inputs_taken files inputs link ≡ whole
       → ((i input : ℕ) → slice_get steps i ≡ Some (step.Input input) → is_new input ≡ true) → IsLinkAt files whole steps link [] is_new 0
   place_starts inputs link is_new are makes new = record {
     left = inputs;
     again = false;
     groups = [];
     reached = 0;
-    steps_left = sym are ∙ sym (append-nil (steps_of inputs));
+    steps_left = sym are ∙ sym (append-nil (plan_steps inputs));
     makes = makes;
     groups_are = refl;
     round = omega (arith, ap length are);
@@ -95,7 +95,7 @@ module _ (files : ℕ → InputFile) (whole : Linking) (steps : List LinkStep) w
   }
 
   -- the end
-  ends_by : (link : Linking) (left : LinkInputs) (again : Bool) (groups : List EnteredGroup) → [] ≡ steps_of left ++ steps_after groups → groups_ended files groups (inputs_made files again left link) ≡ whole → link ≡ whole
+  ends_by : (link : Linking) (left : LinkInputs) (again : Bool) (groups : List EnteredGroup) → [] ≡ plan_steps left ++ steps_after groups → groups_ended files groups (inputs_made files again left link) ≡ whole → link ≡ whole
   ends_by link NoInputs false [] none makes = makes
   ends_by link NoInputs true [] none makes = makes
   ends_by link NoInputs again (g ∷ groups) none makes = absurd cc
@@ -107,20 +107,20 @@ module _ (files : ℕ → InputFile) (whole : Linking) (steps : List LinkStep) w
 
   -- a group begins
   opens_by : (link : Linking) (open_groups : List OpenGroup) (is_new : ℕ → Bool) (place : ℕ) (left : LinkInputs) (again : Bool) (groups : List EnteredGroup) (reached : ℕ)
-      → slice_get steps place ≡ Some step.Open → drop place steps ≡ steps_of left ++ steps_after groups → groups_ended files groups (inputs_made files again left link) ≡ whole
-      → AreGroupsAt steps groups open_groups → IsRoundAt again reached (length steps) (length (steps_of left)) (length (steps_after groups)) → AreRoundsAfter reached (length steps) groups → IsReached steps is_new reached
+      → slice_get steps place ≡ Some step.Open → drop place steps ≡ plan_steps left ++ steps_after groups → groups_ended files groups (inputs_made files again left link) ≡ whole
+      → AreGroupsAt steps groups open_groups → IsRoundAt again reached (length steps) (length (plan_steps left)) (length (steps_after groups)) → AreRoundsAfter reached (length steps) groups → IsReached steps is_new reached
       → IsLinkAt files whole steps link (open_groups ++ record { first = suc place; asked = link.keys.asked } ∷ []) is_new (suc place)
   opens_by link open_groups is_new place NoInputs again [] reached here are makes groups_are round rounds is = let next = drop_next steps place step.Open here in absurd cc
   opens_by link open_groups is_new place NoInputs again (g ∷ groups) reached here are makes groups_are round rounds is = let next = drop_next steps place step.Open here in absurd cc
   opens_by link open_groups is_new place (Input index rest) again groups reached here are makes groups_are round rounds is = let next = drop_next steps place step.Open here in absurd cc
   opens_by link open_groups is_new place (Group group rest) false groups reached here are makes groups_are round rounds is =
       let next = drop_next steps place step.Open here in
-      let after : drop (suc place) steps ≡ (steps_of group ++ (step.Close ∷ steps_of rest)) ++ steps_after groups = cc in
-      let at : reached ≡ place = omega (arith, round, ap length are, ap length next, length-drop place steps, length-append (steps_of (Group group rest)) (steps_after groups)) in
-      let count = length-append (steps_of group) (step.Close ∷ steps_of rest) in
-      let counts = length-append (steps_of rest) (steps_after groups) in
+      let after : drop (suc place) steps ≡ (plan_steps group ++ (step.Close ∷ plan_steps rest)) ++ steps_after groups = cc in
+      let at : reached ≡ place = omega (arith, round, ap length are, ap length next, length-drop place steps, length-append (plan_steps (Group group rest)) (steps_after groups)) in
+      let count = length-append (plan_steps group) (step.Close ∷ plan_steps rest) in
+      let counts = length-append (plan_steps rest) (steps_after groups) in
       let seen : slice_get steps reached ≡ Some step.Open = ap (λ n. slice_get steps n) at ∙ here in
-      let left_is : drop (suc place) steps ≡ steps_of group ++ (step.Close ∷ (steps_of rest ++ steps_after groups)) = after ∙ append_assoc (steps_of group) (step.Close ∷ steps_of rest) (steps_after groups) in
+      let left_is : drop (suc place) steps ≡ plan_steps group ++ (step.Close ∷ (plan_steps rest ++ steps_after groups)) = after ∙ append_assoc (plan_steps group) (step.Close ∷ plan_steps rest) (steps_after groups) in
       record {
         left = group;
         again = false;
@@ -135,9 +135,9 @@ module _ (files : ℕ → InputFile) (whole : Linking) (steps : List LinkStep) w
       }
   opens_by link open_groups is_new place (Group group rest) true groups reached here are makes groups_are round rounds is =
       let next = drop_next steps place step.Open here in
-      let after : drop (suc place) steps ≡ (steps_of group ++ (step.Close ∷ steps_of rest)) ++ steps_after groups = cc in
-      let counts = length-append (steps_of rest) (steps_after groups) in
-      let left_is : drop (suc place) steps ≡ steps_of group ++ (step.Close ∷ (steps_of rest ++ steps_after groups)) = after ∙ append_assoc (steps_of group) (step.Close ∷ steps_of rest) (steps_after groups) in
+      let after : drop (suc place) steps ≡ (plan_steps group ++ (step.Close ∷ plan_steps rest)) ++ steps_after groups = cc in
+      let counts = length-append (plan_steps rest) (steps_after groups) in
+      let left_is : drop (suc place) steps ≡ plan_steps group ++ (step.Close ∷ (plan_steps rest ++ steps_after groups)) = after ∙ append_assoc (plan_steps group) (step.Close ∷ plan_steps rest) (steps_after groups) in
       record {
         left = group;
         again = true;
@@ -162,8 +162,8 @@ module _ (files : ℕ → InputFile) (whole : Linking) (steps : List LinkStep) w
   -- an input
   inputs_by : (link made : Linking) (open_groups : List OpenGroup) (is_new now : ℕ → Bool) (place index : ℕ) (left : LinkInputs) (again : Bool) (groups : List EnteredGroup) (reached : ℕ)
       → AreDistinctSteps steps → made ≡ input_made (is_new index) link index (files index) → now index ≡ false → ((j : ℕ) → j ≢ index → now j ≡ is_new j)
-      → slice_get steps place ≡ Some (step.Input index) → drop place steps ≡ steps_of left ++ steps_after groups → groups_ended files groups (inputs_made files again left link) ≡ whole
-      → AreGroupsAt steps groups open_groups → IsRoundAt again reached (length steps) (length (steps_of left)) (length (steps_after groups)) → AreRoundsAfter reached (length steps) groups → IsReached steps is_new reached
+      → slice_get steps place ≡ Some (step.Input index) → drop place steps ≡ plan_steps left ++ steps_after groups → groups_ended files groups (inputs_made files again left link) ≡ whole
+      → AreGroupsAt steps groups open_groups → IsRoundAt again reached (length steps) (length (plan_steps left)) (length (steps_after groups)) → AreRoundsAfter reached (length steps) groups → IsReached steps is_new reached
       → IsLinkAt files whole steps made open_groups now (suc place)
   inputs_by link made open_groups is_new now place index NoInputs again [] reached distinct made_is old others here are makes groups_are round rounds is =
       let next = drop_next steps place (step.Input index) here in absurd cc
@@ -173,9 +173,9 @@ module _ (files : ℕ → InputFile) (whole : Linking) (steps : List LinkStep) w
       let next = drop_next steps place (step.Input index) here in absurd cc
   inputs_by link made open_groups is_new now place index (Input other rest) false groups reached distinct made_is old others here are makes groups_are round rounds is =
       let next = drop_next steps place (step.Input index) here in
-      let after : drop (suc place) steps ≡ steps_of rest ++ steps_after groups = cc in
+      let after : drop (suc place) steps ≡ plan_steps rest ++ steps_after groups = cc in
       let same : other ≡ index = cc in
-      let at : reached ≡ place = omega (arith, round, ap length are, ap length next, length-drop place steps, length-append (steps_of rest) (steps_after groups)) in
+      let at : reached ≡ place = omega (arith, round, ap length are, ap length next, length-drop place steps, length-append (plan_steps rest) (steps_after groups)) in
       let first : is_new index ≡ true = is.from place index (omega (arith, at)) here in
       let taken : made ≡ input_taken link other (files other) =
       made_is ∙ ap (λ b. input_made b link index (files index)) first ∙ ap (λ i. input_taken link i (files i)) (sym same) in
@@ -198,9 +198,9 @@ module _ (files : ℕ → InputFile) (whole : Linking) (steps : List LinkStep) w
       }
   inputs_by link made open_groups is_new now place index (Input other rest) true groups reached distinct made_is old others here are makes groups_are round rounds is =
       let next = drop_next steps place (step.Input index) here in
-      let after : drop (suc place) steps ≡ steps_of rest ++ steps_after groups = cc in
+      let after : drop (suc place) steps ≡ plan_steps rest ++ steps_after groups = cc in
       let same : other ≡ index = cc in
-      let below : place < reached = omega (arith, round, ap length are, ap length next, length-drop place steps, length-append (steps_of rest) (steps_after groups)) in
+      let below : place < reached = omega (arith, round, ap length are, ap length next, length-drop place steps, length-append (plan_steps rest) (steps_after groups)) in
       let again : is_new index ≡ false = is.before place index below here in
       let taken : made ≡ input_again link other (files other) =
       made_is ∙ ap (λ b. input_made b link index (files index)) again ∙ ap (λ i. input_again link i (files i)) (sym same) in
@@ -234,18 +234,18 @@ module _ (files : ℕ → InputFile) (whole : Linking) (steps : List LinkStep) w
   made_none true link = refl
 
   ended_by : (link : Linking) (before : List OpenGroup) (is_new : ℕ → Bool) (place : ℕ) (again : Bool) (g : EnteredGroup) (outer : Bool) (groups : List EnteredGroup) (reached : ℕ)
-      → g.again ≡ outer → slice_get steps place ≡ Some step.Close → drop place steps ≡ step.Close ∷ (steps_of g.rest ++ steps_after groups) → groups_ended files groups (inputs_made files g.again g.rest link) ≡ whole
-      → AreGroupsAt steps groups before → IsRoundAt again reached (length steps) 0 (length (step.Close ∷ (steps_of g.rest ++ steps_after groups)))
-      → IsRoundAfter outer reached (length steps) (length (steps_of g.rest)) (length (steps_after groups)) → AreRoundsAfter reached (length steps) groups → IsReached steps is_new reached
+      → g.again ≡ outer → slice_get steps place ≡ Some step.Close → drop place steps ≡ step.Close ∷ (plan_steps g.rest ++ steps_after groups) → groups_ended files groups (inputs_made files g.again g.rest link) ≡ whole
+      → AreGroupsAt steps groups before → IsRoundAt again reached (length steps) 0 (length (step.Close ∷ (plan_steps g.rest ++ steps_after groups)))
+      → IsRoundAfter outer reached (length steps) (length (plan_steps g.rest)) (length (steps_after groups)) → AreRoundsAfter reached (length steps) groups → IsReached steps is_new reached
       → IsLinkAt files whole steps link before is_new (suc place)
   ended_by link before is_new place false g true groups reached outer_is here are makes groups_are round first rounds is =
-      absurd (omega (arith, round, first, length-append (steps_of g.rest) (steps_after groups)))
+      absurd (omega (arith, round, first, length-append (plan_steps g.rest) (steps_after groups)))
   ended_by link before is_new place false g false groups reached outer_is here are makes groups_are round first rounds is =
       let next = drop_next steps place step.Close here in
-      let after : drop (suc place) steps ≡ steps_of g.rest ++ steps_after groups = cc in
+      let after : drop (suc place) steps ≡ plan_steps g.rest ++ steps_after groups = cc in
       let at : reached ≡ place = omega (arith, round, ap length are, ap length next, length-drop place steps) in
       let seen : slice_get steps reached ≡ Some step.Close = ap (λ n. slice_get steps n) at ∙ here in
-      let counts = length-append (steps_of g.rest) (steps_after groups) in
+      let counts = length-append (plan_steps g.rest) (steps_after groups) in
       record {
         left = g.rest;
         again = g.again;
@@ -254,13 +254,13 @@ module _ (files : ℕ → InputFile) (whole : Linking) (steps : List LinkStep) w
         steps_left = after;
         makes = makes;
         groups_are = groups_are;
-        round = subst (λ o. IsRoundAt o (suc reached) (length steps) (length (steps_of g.rest)) (length (steps_after groups))) (sym outer_is) (omega (arith, round, counts));
+        round = subst (λ o. IsRoundAt o (suc reached) (length steps) (length (plan_steps g.rest)) (length (steps_after groups))) (sym outer_is) (omega (arith, round, counts));
         rounds = rounds_more reached (suc reached) (length steps) groups (omega arith) (omega (arith, round, counts)) rounds;
         is_reached = reached_more steps is_new reached (λ input there. let differ : Some step.Close ≡ Some (step.Input input) = sym seen ∙ there in cc) is;
       }
   ended_by link before is_new place true g outer groups reached outer_is here are makes groups_are round first rounds is =
       let next = drop_next steps place step.Close here in
-      let after : drop (suc place) steps ≡ steps_of g.rest ++ steps_after groups = cc in
+      let after : drop (suc place) steps ≡ plan_steps g.rest ++ steps_after groups = cc in
       record {
         left = g.rest;
         again = g.again;
@@ -269,16 +269,16 @@ module _ (files : ℕ → InputFile) (whole : Linking) (steps : List LinkStep) w
         steps_left = after;
         makes = makes;
         groups_are = groups_are;
-        round = subst (λ o. IsRoundAt o reached (length steps) (length (steps_of g.rest)) (length (steps_after groups))) (sym outer_is)
-            (round_left outer reached (length steps) (length (steps_of g.rest)) (length (steps_after groups)) (omega (arith, round, length-append (steps_of g.rest) (steps_after groups))) first);
+        round = subst (λ o. IsRoundAt o reached (length steps) (length (plan_steps g.rest)) (length (steps_after groups))) (sym outer_is)
+            (round_left outer reached (length steps) (length (plan_steps g.rest)) (length (steps_after groups)) (omega (arith, round, length-append (plan_steps g.rest) (steps_after groups))) first);
         rounds = rounds;
         is_reached = is;
       }
 
   closes_by : (link : Linking) (open_groups before : List OpenGroup) (last : OpenGroup) (is_new : ℕ → Bool) (place : ℕ) (left : LinkInputs) (again : Bool) (groups : List EnteredGroup) (reached : ℕ)
       → open_groups ≡ before ++ last ∷ [] → link.keys.asked ≡ last.asked
-      → slice_get steps place ≡ Some step.Close → drop place steps ≡ steps_of left ++ steps_after groups → groups_ended files groups (inputs_made files again left link) ≡ whole
-      → AreGroupsAt steps groups open_groups → IsRoundAt again reached (length steps) (length (steps_of left)) (length (steps_after groups)) → AreRoundsAfter reached (length steps) groups → IsReached steps is_new reached
+      → slice_get steps place ≡ Some step.Close → drop place steps ≡ plan_steps left ++ steps_after groups → groups_ended files groups (inputs_made files again left link) ≡ whole
+      → AreGroupsAt steps groups open_groups → IsRoundAt again reached (length steps) (length (plan_steps left)) (length (steps_after groups)) → AreRoundsAfter reached (length steps) groups → IsReached steps is_new reached
       → IsLinkAt files whole steps link before is_new (suc place)
   closes_by link open_groups before last is_new place NoInputs again [] reached last_is same here are makes groups_are round rounds is =
       let next = drop_next steps place step.Close here in absurd cc
@@ -302,19 +302,19 @@ module _ (files : ℕ → InputFile) (whole : Linking) (steps : List LinkStep) w
 
   -- a group is taken once more
   again_by : (link : Linking) (before : List OpenGroup) (last : OpenGroup) (is_new : ℕ → Bool) (place : ℕ) (again : Bool) (g : EnteredGroup) (outer : Bool) (groups : List EnteredGroup) (reached : ℕ)
-      → g.again ≡ outer → slice_get steps place ≡ Some step.Close → drop place steps ≡ step.Close ∷ (steps_of g.rest ++ steps_after groups)
+      → g.again ≡ outer → slice_get steps place ≡ Some step.Close → drop place steps ≡ step.Close ∷ (plan_steps g.rest ++ steps_after groups)
       → groups_ended files groups (inputs_made files g.again g.rest (group_settled (inputs_again files g.group) link.keys.asked (inputs_again files g.group link))) ≡ whole
-      → drop last.first steps ≡ steps_of g.group ++ (step.Close ∷ (steps_of g.rest ++ steps_after groups))
-      → AreGroupsAt steps groups before → IsRoundAt again reached (length steps) 0 (length (step.Close ∷ (steps_of g.rest ++ steps_after groups)))
-      → IsRoundAfter outer reached (length steps) (length (steps_of g.rest)) (length (steps_after groups)) → AreRoundsAfter reached (length steps) groups → IsReached steps is_new reached
+      → drop last.first steps ≡ plan_steps g.group ++ (step.Close ∷ (plan_steps g.rest ++ steps_after groups))
+      → AreGroupsAt steps groups before → IsRoundAt again reached (length steps) 0 (length (step.Close ∷ (plan_steps g.rest ++ steps_after groups)))
+      → IsRoundAfter outer reached (length steps) (length (plan_steps g.rest)) (length (steps_after groups)) → AreRoundsAfter reached (length steps) groups → IsReached steps is_new reached
       → IsLinkAt files whole steps link (before ++ record { first = last.first; asked = link.keys.asked } ∷ []) is_new last.first
   again_by link before last is_new place false g true groups reached outer_is here are makes first_is groups_are round first rounds is =
-      absurd (omega (arith, round, first, length-append (steps_of g.rest) (steps_after groups)))
+      absurd (omega (arith, round, first, length-append (plan_steps g.rest) (steps_after groups)))
   again_by link before last is_new place false g false groups reached outer_is here are makes first_is groups_are round first rounds is =
       let next = drop_next steps place step.Close here in
       let at : reached ≡ place = omega (arith, round, ap length are, ap length next, length-drop place steps) in
       let seen : slice_get steps reached ≡ Some step.Close = ap (λ n. slice_get steps n) at ∙ here in
-      let counts = length-append (steps_of g.rest) (steps_after groups) in
+      let counts = length-append (plan_steps g.rest) (steps_after groups) in
       record {
         left = g.group;
         again = true;
@@ -325,7 +325,7 @@ module _ (files : ℕ → InputFile) (whole : Linking) (steps : List LinkStep) w
         groups_are = (before, record { first = last.first; asked = link.keys.asked }, refl, record { asked = refl; first = first_is }, groups_are);
         round = omega (arith, round);
         rounds = (
-          subst (λ o. IsRoundAfter o (suc reached) (length steps) (length (steps_of g.rest)) (length (steps_after groups))) (sym outer_is) (omega (arith, round, counts)),
+          subst (λ o. IsRoundAfter o (suc reached) (length steps) (length (plan_steps g.rest)) (length (steps_after groups))) (sym outer_is) (omega (arith, round, counts)),
           rounds_more reached (suc reached) (length steps) groups (omega arith) (omega (arith, round, counts)) rounds,
         );
         is_reached = reached_more steps is_new reached (λ input there. let differ : Some step.Close ≡ Some (step.Input input) = sym seen ∙ there in cc) is;
@@ -339,14 +339,14 @@ module _ (files : ℕ → InputFile) (whole : Linking) (steps : List LinkStep) w
     makes = makes;
     groups_are = (before, record { first = last.first; asked = link.keys.asked }, refl, record { asked = refl; first = first_is }, groups_are);
     round = round;
-    rounds = (subst (λ o. IsRoundAfter o reached (length steps) (length (steps_of g.rest)) (length (steps_after groups))) (sym outer_is) first, rounds);
+    rounds = (subst (λ o. IsRoundAfter o reached (length steps) (length (plan_steps g.rest)) (length (steps_after groups))) (sym outer_is) first, rounds);
     is_reached = is;
   }
 
   repeats_by : (link : Linking) (open_groups before : List OpenGroup) (last : OpenGroup) (is_new : ℕ → Bool) (place : ℕ) (left : LinkInputs) (again : Bool) (groups : List EnteredGroup) (reached : ℕ)
       → AreDistinctInputs link.archives → open_groups ≡ before ++ last ∷ [] → (link.keys.asked == last.asked) ≡ false
-      → slice_get steps place ≡ Some step.Close → drop place steps ≡ steps_of left ++ steps_after groups → groups_ended files groups (inputs_made files again left link) ≡ whole
-      → AreGroupsAt steps groups open_groups → IsRoundAt again reached (length steps) (length (steps_of left)) (length (steps_after groups)) → AreRoundsAfter reached (length steps) groups → IsReached steps is_new reached
+      → slice_get steps place ≡ Some step.Close → drop place steps ≡ plan_steps left ++ steps_after groups → groups_ended files groups (inputs_made files again left link) ≡ whole
+      → AreGroupsAt steps groups open_groups → IsRoundAt again reached (length steps) (length (plan_steps left)) (length (steps_after groups)) → AreRoundsAfter reached (length steps) groups → IsReached steps is_new reached
       → IsLinkAt files whole steps link (before ++ record { first = last.first; asked = link.keys.asked } ∷ []) is_new last.first
   repeats_by link open_groups before last is_new place NoInputs again [] reached distinct last_is differ here are makes groups_are round rounds is =
       let next = drop_next steps place step.Close here in absurd cc
@@ -372,7 +372,7 @@ module _ (files : ℕ → InputFile) (whole : Linking) (steps : List LinkStep) w
       (repeats_by link open_groups before last is_new place at.left at.again at.groups at.reached distinct last_is differ here at.steps_left at.makes at.groups_are at.round at.rounds at.is_reached)
 
   -- at the end of a round a group is open
-  none_by : (left : LinkInputs) (groups : List EnteredGroup) (place : ℕ) → slice_get steps place ≡ Some step.Close → drop place steps ≡ steps_of left ++ steps_after groups → AreGroupsAt steps groups [] → ⊥
+  none_by : (left : LinkInputs) (groups : List EnteredGroup) (place : ℕ) → slice_get steps place ≡ Some step.Close → drop place steps ≡ plan_steps left ++ steps_after groups → AreGroupsAt steps groups [] → ⊥
   none_by NoInputs [] place here are groups_are = let next = drop_next steps place step.Close here in cc
   none_by NoInputs (g ∷ groups) place here are groups_are = none_last groups_are.0 groups_are.1 groups_are.2
   none_by (Input index rest) groups place here are groups_are = let next = drop_next steps place step.Close here in cc

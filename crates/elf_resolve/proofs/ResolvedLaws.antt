@@ -1,6 +1,6 @@
 -- A link as a resolver has it: what reading a file and taking its members make of it.
 use Rattle.std.proofs.Common.{◌≡◌, ◌≢◌, ℕ, zero, suc, ◌+◌, ◌-◌, ◌<◌, ◌≤◌, Bool, true, false, List, [], ◌∷◌, ◌++◌, length, length-append, map, take, drop, get_or, set, add-one, drop-cons, refl, sym, ap, subst, ◌∙◌, ◌⊎◌, inl, inr, eqb, arith}
-use Rattle.std.specs.Prelude.{◌||◌, if◌then◌else◌, OnOk, Option, None, Some, Result, Ok, Err, option_map, replicate}
+use Rattle.std.specs.Prelude.{◌||◌, if◌then◌else◌, OnOk, Option, None, Some, Result, Ok, Err, replicate}
 use Rattle.std.specs.List.{slice_get}
 use Rattle.std.proofs.lemmas.List.{append-nil, drop_all, length-map, length-replicate, map-append}
 use Rattle.std.proofs.lemmas.Bool.Decides.{eqb_tells}
@@ -8,24 +8,24 @@ use Rattle.std.proofs.Math.Seq.{drop-append_seam, take-append_seam}
 use Rattle.elf_archive.specs.Members.{extent_of_names}
 use Rattle.elf_archive.specs.declared.member.FileRange.{FileRange as Place}
 use Rattle.elf_model.specs.Archive.{FileRange, bytes_in, is_name_table}
-use Rattle.elf_model.specs.LinkArchives.{LinkFiles, LinkMember, archive_as, archive_index, archive_input, files_as_inputs, input_of, is_archive_index, link_members, members_as_objects, members_refusal, name_table, no_member, object_input, or_empty, or_object, searched_by, whole_members}
-use Rattle.elf_model.specs.LinkInputs.{EnteredIndex, IndexSymbol, InputFile, Linking, OpenArchive, archive_again, archive_opened, file_row, index_entered, input_again, input_taken, members_taken, with_row, with_taken}
+use Rattle.elf_model.specs.LinkArchives.{LinkFiles, LinkMember, archive_as, archive_index, archive_input, files_as_inputs, input_of, is_archive_index, link_members, members_as_objects, members_refusal, no_member, object_input, or_empty, or_object, searched_by, whole_members}
+use Rattle.elf_model.specs.LinkInputs.{IndexSymbol, Linking, OpenArchive, archive_again, archive_opened, file_row, index_entered, input_taken, members_taken, with_row, with_taken}
 use Rattle.elf_model.specs.LinkInputs.InputFile.{ObjectFile, SearchedFile, WholeFile, MissingFile}
 use Rattle.elf_model.specs.LinkKeys.{LinkKeys}
 use Rattle.elf_model.specs.LinkObjects.{LinkObject}
-use Rattle.elf_model.specs.LinkPasses.{ArchiveMembers, ArchivePass, archive_searched}
+use Rattle.elf_model.specs.LinkPasses.{ArchivePass, archive_searched}
 use Rattle.elf_model.specs.LinkSymbols.{object_of}
 use Rattle.elf_model.specs.declared.link_states.IndexEntry.{IndexEntry}
 use Rattle.elf_model.specs.declared.link_states.LinkRow.{LinkRow}
 use Rattle.elf_model.specs.declared.link_states.LinkRowKind.TheVariants.{Archive}
 use Rattle.elf_resolve.specs.LinkMembers.{AreMembersOf, members_known}
-use Rattle.elf_resolve.specs.LinkPlaces.{is_new_input, is_new_state}
-use Rattle.elf_resolve.specs.OpenedArchives.{AreDistinctArchives, AreOpened, HasMembers, IsOpened, IsStateOf, SameOutside, archive_in, archive_of_input}
+use Rattle.elf_resolve.specs.LinkPlaces.{is_new_state}
+use Rattle.elf_resolve.specs.OpenedArchives.{AreDistinctArchives, AreOpened, HasMembers, IsOpenedArchive, IsInputState, SameOutside, archive_in, archive_of_input}
 use Rattle.elf_resolve.specs.Passing.{pass_of}
 use Rattle.elf_resolve.specs.Ranges.{IsRangeOf}
 use Rattle.elf_resolve.specs.Resolved.{elements_in, linking_of, open_archive}
-use Rattle.elf_resolve.specs.ResolvedInputs.{AddedRowOf, EntersIndex, IsArchiveAt, IsLink, KeepsArchives, KeepsSteps, KeptArchive, OpenedAs, TookInput, TookMembers}
-use Rattle.elf_resolve.specs.Taken.{ReadIndex, WalkedMembers, data_of, header_of}
+use Rattle.elf_resolve.specs.ResolvedInputs.{AddedRowOf, EntersIndex, IsArchiveAt, IsLink, KeepsArchives, KeptArchive, OpenedAs, TookInput, TookMembers}
+use Rattle.elf_resolve.specs.Taken.{ReadIndex, WalkedMembers, header_of}
 use Rattle.elf_resolve.specs.declared.archives.ArchiveTables.{ArchiveTables}
 use Rattle.elf_resolve.specs.declared.archives.OpenedArchive.{OpenedArchive}
 use Rattle.elf_resolve.specs.declared.link_faults.LinkFault.{LinkFault}
@@ -50,8 +50,8 @@ link_still files old new is headers libraries states tables count = record {
   opened = subst (λ (t : ArchiveTables). AreOpened files t.members.items (length t.entries.items) 0 t.archives.items) (sym tables) is.opened;
   distinct = subst (λ (t : ArchiveTables). AreDistinctArchives t.archives.items) (sym tables) is.distinct;
   states = λ input.
-      subst (λ (t : ArchiveTables). IsStateOf (slice_get new.states.items input) t.archives.items input) (sym tables)
-      (subst (λ (s : List InputState). IsStateOf (slice_get s input) old.tables.archives.items input) (sym states) (is.states input));
+      subst (λ (t : ArchiveTables). IsInputState (slice_get new.states.items input) t.archives.items input) (sym tables)
+      (subst (λ (s : List InputState). IsInputState (slice_get s input) old.tables.archives.items input) (sym states) (is.states input));
 }
 
 -- AN ARCHIVE IS SEARCHED
@@ -100,17 +100,17 @@ set_there (x ∷ states) (suc i) zero s differ = refl
 set_there (x ∷ states) (suc i) (suc j) s differ = set_there states i j s (λ same. differ (ap suc same))
 
 kept_state : (old new : List InputState) (archives : List OpenedArchive) (b : OpenedArchive) (input i : ℕ) → b.input ≡ input → slice_get old input ≡ Some state.Done
-    → new ≡ set old b.input (state.Archive (length archives)) → archive_of_input archives b.input ≡ None → IsStateOf (slice_get old i) archives i → IsStateOf (slice_get new i) (archives ++ b ∷ []) i
+    → new ≡ set old b.input (state.Archive (length archives)) → archive_of_input archives b.input ≡ None → IsInputState (slice_get old i) archives i → IsInputState (slice_get new i) (archives ++ b ∷ []) i
 kept_state old new archives b input i input_is done states absent is = by (eqb_tells b.input i) where
-  by : ((eqb b.input i ≡ true) × (b.input ≡ i)) ⊎ ((eqb b.input i ≡ false) × (b.input ≢ i)) → IsStateOf (slice_get new i) (archives ++ b ∷ []) i
+  by : ((eqb b.input i ≡ true) × (b.input ≡ i)) ⊎ ((eqb b.input i ≡ false) × (b.input ≢ i)) → IsInputState (slice_get new i) (archives ++ b ∷ []) i
   by (inl (yes_is, same)) =
       let here : slice_get new b.input ≡ Some (state.Archive (length archives)) =
       ap (λ s. slice_get s b.input) states ∙ set_here old b.input (state.Archive (length archives)) state.Done (ap (λ n. slice_get old n) input_is ∙ done) in
-      subst (λ n. IsStateOf (slice_get new n) (archives ++ b ∷ []) n) same
-      (subst (λ s. IsStateOf s (archives ++ b ∷ []) b.input) (sym here) (state_new archives b absent))
+      subst (λ n. IsInputState (slice_get new n) (archives ++ b ∷ []) n) same
+      (subst (λ s. IsInputState s (archives ++ b ∷ []) b.input) (sym here) (state_new archives b absent))
   by (inr (no_is, differ)) =
       let there : slice_get new i ≡ slice_get old i = ap (λ s. slice_get s i) states ∙ set_there old b.input i (state.Archive (length archives)) differ in
-      subst (λ s. IsStateOf s (archives ++ b ∷ []) i) (sym there) (state_still (slice_get old i) archives b i differ is)
+      subst (λ s. IsInputState s (archives ++ b ∷ []) i) (sym there) (state_still (slice_get old i) archives b i differ is)
 
 -- WHAT A FILE IS as an input
 as_input : (files : LinkFiles) (i : ℕ) (archive whole : Bool) (file : Option (List ℕ)) → files.is_archive i ≡ archive → files.is_whole i ≡ whole → files.file i ≡ file → files_as_inputs files i ≡ or_object (input_of archive whole file files.headers)
@@ -220,8 +220,8 @@ whole_link files file input old new archive is opened =
           (all_more files old.tables.members.items (map header_of (link_members file).members) (length old.tables.entries.items) (length new.tables.entries.items) 0 old.tables.archives.items entries is.opened));
       distinct = subst (λ v. AreDistinctArchives v.items) (sym opened.archives) is.distinct;
       states = λ i.
-          subst (λ v. IsStateOf (slice_get new.states.items i) v.items i) (sym opened.archives)
-          (subst (λ s. IsStateOf (slice_get s.items i) old.tables.archives.items i) (sym opened.steps.states) (is.states i));
+          subst (λ v. IsInputState (slice_get new.states.items i) v.items i) (sym opened.archives)
+          (subst (λ s. IsInputState (slice_get s.items i) old.tables.archives.items i) (sym opened.steps.states) (is.states i));
     }
 
 -- the archive that was read has the members of its file
@@ -275,7 +275,7 @@ kept_link files file seen input old opened_link new archive is at opened kept no
     let has = opened_members file false input old opened_link archive opened in
     let absent : archive_of_input old.tables.archives.items archive.input ≡ None = ap (λ i. archive_of_input old.tables.archives.items i) input_is ∙ none in
     let has_now : HasMembers file (old.tables.members.items ++ map header_of (link_members file).members) archive = subst (λ m. HasMembers file m archive) opened.members has in
-    let is_opened : IsOpened files (old.tables.members.items ++ map header_of (link_members file).members) (length new.tables.entries.items) (length old.tables.members.items) archive = record {
+    let is_opened : IsOpenedArchive files (old.tables.members.items ++ map header_of (link_members file).members) (length new.tables.entries.items) (length old.tables.members.items) archive = record {
       file = file;
       count = length (link_members file).members;
       symbols = opened.index.symbols;
@@ -295,7 +295,7 @@ kept_link files file seen input old opened_link new archive is at opened kept no
           (all_push files old.tables.members.items (map header_of (link_members file).members) (length old.tables.entries.items) (length new.tables.entries.items) 0 old.tables.archives.items archive more is.opened is_opened));
       distinct = subst AreDistinctArchives (sym archives) (distinct_push old.tables.archives.items archive is.distinct absent);
       states = λ i.
-          subst (λ a. IsStateOf (slice_get new.states.items i) a i) (sym archives)
+          subst (λ a. IsInputState (slice_get new.states.items i) a i) (sym archives)
           (kept_state old.states.items new.states.items old.tables.archives.items archive input i input_is at.state_is
           (kept.states ∙ ap (λ s. set s archive.input (state.Archive (length opened_link.tables.archives.items))) (ap (λ v. v.items) opened.steps.states)
           ∙ ap (λ n. set old.states.items archive.input (state.Archive n)) (ap (λ v. length v.items) opened.archives)) absent (is.states i));
@@ -357,7 +357,7 @@ pub search_found : (files : LinkFiles) (file : List ℕ) (seen : SourceState) (i
     → OpenedAs file false input old opened_link archive → KeptArchive opened_link new archive → IsLink files new × (archive_of_input new.tables.archives.items archive.input ≡ Some archive) × (files.file archive.input ≡ Some file)
 search_found files file seen input old opened_link new archive is at opened kept =
     let input_is : archive.input ≡ input = ap (λ (a : OpenedArchive). a.input) opened.archive_is in
-    let none : archive_of_input old.tables.archives.items input ≡ None = subst (λ s. IsStateOf s old.tables.archives.items input) at.state_is (is.states input) in
+    let none : archive_of_input old.tables.archives.items input ≡ None = subst (λ s. IsInputState s old.tables.archives.items input) at.state_is (is.states input) in
     let archives : new.tables.archives.items ≡ old.tables.archives.items ++ archive ∷ [] = kept.archives ∙ ap (λ v. v.items ++ archive ∷ []) opened.archives in (
       kept_link files file seen input old opened_link new archive is at opened kept none,
       ap (λ a. archive_of_input a archive.input) archives ∙ found_new old.tables.archives.items archive (ap (λ i. archive_of_input old.tables.archives.items i) input_is ∙ none),

@@ -1,5 +1,5 @@
 -- A link at a step of a plan, as a resolver has it.
-use Rattle.std.proofs.Common.{◌≡◌, ◌≢◌, ℕ, ◌+◌, ◌≤◌, Bool, true, false, List, [], ◌∷◌, ◌++◌, ◌<◌, get_or, length, map, take, refl, sym, ap, subst, ◌∙◌, arith}
+use Rattle.std.proofs.Common.{◌≡◌, ℕ, ◌+◌, ◌≤◌, Bool, true, false, List, [], ◌∷◌, ◌++◌, ◌<◌, get_or, length, map, take, refl, sym, ap, subst, ◌∙◌, arith}
 use Rattle.std.specs.Prelude.{◌==◌, Option, None, Some}
 use Rattle.std.specs.List.{slice_get}
 use Rattle.std.proofs.lemmas.Bool.{eqb-true}
@@ -10,10 +10,10 @@ use Rattle.elf_model.specs.LinkArchives.{LinkFiles, files_as_inputs}
 use Rattle.elf_model.specs.LinkInputs.{LinkInputs, Linking, argument_symbol, inputs_taken, linked, with_arguments}
 use Rattle.elf_model.specs.LinkKeys.{LinkKeys, LinkSymbol, no_keys, symbol_taken, symbols_taken}
 use Rattle.elf_resolve.specs.LinkPlaces.{IsLinkAt, input_made, is_new_input, is_new_state}
-use Rattle.elf_resolve.specs.OpenedArchives.{AreDistinctArchives, AreOpened, IsStateOf}
-use Rattle.elf_resolve.specs.Plans.{AreDistinctSteps, steps_of}
+use Rattle.elf_resolve.specs.OpenedArchives.{AreDistinctArchives, AreOpened, IsInputState}
+use Rattle.elf_resolve.specs.Plans.{AreDistinctSteps, plan_steps}
 use Rattle.elf_resolve.specs.Resolved.{linking_of, open_archive}
-use Rattle.elf_resolve.specs.ResolvedInputs.{Asked, IsAtStep, IsFresh, IsLink, OpenedGroup, TookAll, TookInput}
+use Rattle.elf_resolve.specs.ResolvedInputs.{AskedNames, IsAtStep, IsFresh, IsLink, OpenedGroup, TookAll, TookInput}
 use Rattle.elf_resolve.specs.declared.link_files.LinkPlan.{LinkPlan}
 use Rattle.elf_resolve.specs.declared.link_files.LinkStep.TheVariants as step
 use Rattle.elf_resolve.specs.declared.archives.OpenedArchive.{OpenedArchive}
@@ -103,14 +103,14 @@ pub took_from_row : (files : LinkFiles) (old : Resolver) (row : Option ℕ) (new
 took_from_row files old row new index took = record { makes = took.makes; is_link = took.is_link; groups = took.groups; reached = took.reached; others = took.others }
 
 -- THE FIRST STEP
-fresh_state : (o : Option InputState) (i : ℕ) → is_new_state o ≡ true → IsStateOf o [] i
+fresh_state : (o : Option InputState) (i : ℕ) → is_new_state o ≡ true → IsInputState o [] i
 fresh_state None i is = refl
 fresh_state (Some state.New) i is = refl
 fresh_state (Some state.Done) i is = refl
 fresh_state (Some (state.Archive index)) i is = absurd cc
 fresh_state (Some (state.Library index)) i is = absurd cc
 
-fresh_link : (files : LinkFiles) (old new : Resolver) (names : List (List ℕ)) → files.headers ≡ old.room.headers → IsFresh old → Asked old new names → IsLink files new
+fresh_link : (files : LinkFiles) (old new : Resolver) (names : List (List ℕ)) → files.headers ≡ old.room.headers → IsFresh old → AskedNames old new names → IsLink files new
 fresh_link files old new names headers fresh asked =
     let archives : new.tables.archives.items ≡ [] = ap (λ (r : Resolver). r.tables.archives.items) asked.same ∙ fresh.archives in
     record {
@@ -119,18 +119,18 @@ fresh_link files old new names headers fresh asked =
       marked = ap (λ (r : Resolver). length r.taken.items) asked.same ∙ ap length fresh.taken ∙ sym (ap length fresh.members) ∙ sym (ap (λ (r : Resolver). length r.tables.members.items) asked.same);
       opened = subst (λ a. AreOpened files new.tables.members.items (length new.tables.entries.items) 0 a) (sym archives) (omega arith);
       distinct = subst AreDistinctArchives (sym archives) tt;
-      states = λ i. subst (λ a. IsStateOf (slice_get new.states.items i) a i) (sym archives)
+      states = λ i. subst (λ a. IsInputState (slice_get new.states.items i) a i) (sym archives)
           (fresh_state (slice_get new.states.items i) i (ap (λ (r : Resolver). is_new_input r.states.items i) asked.same ∙ fresh.states i));
     }
 
-fresh_linking : (old new : Resolver) (names : List (List ℕ)) → IsFresh old → Asked old new names → linking_of new ≡ with_arguments names
+fresh_linking : (old new : Resolver) (names : List (List ℕ)) → IsFresh old → AskedNames old new names → linking_of new ≡ with_arguments names
 unfolding with_arguments
 fresh_linking old new names fresh asked =
     linking_by new (symbols_taken None no_keys (map argument_symbol names)) [] [] (asked.keys ∙ ap (λ k. symbols_taken None k (map argument_symbol names)) fresh.keys)
     (ap (λ (r : Resolver). r.link.rows.rows) asked.same ∙ fresh.rows)
     (ap (λ (a : List OpenedArchive). map (open_archive new.tables.entries.items new.taken.items) a) (ap (λ (r : Resolver). r.tables.archives.items) asked.same ∙ fresh.archives))
 
-pub step_starts : (files : LinkFiles) (plan : LinkPlan) (old new : Resolver) (names : List (List ℕ)) (inputs : LinkInputs) → files.headers ≡ old.room.headers → IsFresh old → Asked old new names → steps_of inputs ≡ plan.steps.items
+pub step_starts : (files : LinkFiles) (plan : LinkPlan) (old new : Resolver) (names : List (List ℕ)) (inputs : LinkInputs) → files.headers ≡ old.room.headers → IsFresh old → AskedNames old new names → plan_steps inputs ≡ plan.steps.items
     → IsAtStep files plan (linked (files_as_inputs files) names inputs) new 0
 step_starts files plan old new names inputs headers fresh asked steps = record {
   is_link = fresh_link files old new names headers fresh asked;
@@ -146,10 +146,10 @@ symbols_both : (row : Option ℕ) (keys : LinkKeys) (xs ys : List LinkSymbol) �
 symbols_both row keys [] ys = refl
 symbols_both row keys (x ∷ xs) ys = symbols_both row (symbol_taken row keys x) xs ys
 
-pub asked_none : (old : Resolver) → Asked old old []
+pub asked_none : (old : Resolver) → AskedNames old old []
 asked_none old = record { same = refl; keys = refl }
 
-pub asked_more : (old now new : Resolver) (names : List (List ℕ)) (name : List ℕ) → Asked old now names → Asked now new (name ∷ []) → Asked old new (names ++ name ∷ [])
+pub asked_more : (old now new : Resolver) (names : List (List ℕ)) (name : List ℕ) → AskedNames old now names → AskedNames now new (name ∷ []) → AskedNames old new (names ++ name ∷ [])
 asked_more old now new names name first second = record {
   same = second.same ∙ ap (λ (r : Resolver). record r { link = record r.link { keys = new.link.keys } }) first.same;
   keys = second.keys ∙ ap (λ k. symbols_taken None k (map argument_symbol (name ∷ []))) first.keys

@@ -1,20 +1,19 @@
 -- An input that is taken for the first time, or once more, as a resolver has it.
-use Rattle.std.proofs.Common.{◌≡◌, ◌≢◌, ℕ, zero, suc, Bool, true, false, List, [], ◌∷◌, ◌++◌, length, map, set, refl, sym, ap, subst, ◌∙◌, ◌⊎◌, inl, inr, eqb}
+use Rattle.std.proofs.Common.{◌≡◌, ◌≢◌, ℕ, true, false, List, [], ◌∷◌, ◌++◌, length, map, set, refl, sym, ap, subst, ◌∙◌, ◌⊎◌, inl, inr, eqb}
 use Rattle.std.specs.Prelude.{OnOk, Option, None, Some, Result, Ok, Err, option_map}
 use Rattle.std.specs.List.{slice_get}
 use Rattle.std.proofs.lemmas.Bool.Decides.{eqb_tells}
 use Rattle.elf_model.specs.LinkArchives.{LinkFiles, files_as_inputs, link_members, members_as_objects}
 use Rattle.elf_model.specs.LinkInputs.{IndexSymbol, InputFile, Linking, OpenArchive, again_at, archive_again, file_row, input_again, input_taken, opened_at}
 use Rattle.elf_model.specs.LinkInputs.InputFile.{ObjectFile, SearchedFile, WholeFile, MissingFile}
-use Rattle.elf_model.specs.LinkObjects.{LinkObject, object_taken}
+use Rattle.elf_model.specs.LinkObjects.{object_taken}
 use Rattle.elf_model.specs.LinkPasses.{ArchiveMembers}
 use Rattle.elf_model.specs.LinkSymbols.{object_of}
 use Rattle.elf_model.specs.declared.link_states.LinkRow.{LinkRow}
 use Rattle.elf_model.specs.declared.link_states.LinkRowKind.TheVariants.{Object, Missing}
 use Rattle.elf_resolve.specs.KeyTables.{KeyList}
 use Rattle.elf_resolve.specs.LinkPlaces.{input_made, is_new_input, is_new_state}
-use Rattle.elf_resolve.specs.OpenedArchives.{AreDistinctArchives, AreOpened, IsOpened, IsStateOf, archive_of_input}
-use Rattle.elf_resolve.specs.Passing.{TookObject}
+use Rattle.elf_resolve.specs.OpenedArchives.{AreDistinctArchives, AreOpened, IsOpenedArchive, IsInputState, archive_of_input}
 use Rattle.elf_resolve.specs.Plans.{IsKnownFile, IsStaticPlan, archive_planned, file_of_kind, file_planned, planned_files, whole_planned}
 use Rattle.elf_resolve.specs.Resolved.{linking_of, open_archive}
 use Rattle.elf_resolve.specs.ResolvedInputs.{AddedRowOf, IsLink, IsPlanned, TookInput, TookMembers}
@@ -29,23 +28,23 @@ use Rattle.elf_resolve.specs.declared.link_files.LinkPlan.{LinkPlan}
 use Rattle.elf_resolve.specs.declared.resolver.InputState.{InputState}
 use Rattle.elf_resolve.specs.declared.resolver.InputState.TheVariants as state
 use Rattle.elf_resolve.specs.declared.resolver.Resolver.{Resolver}
-use Rattle.elf_resolve.proofs.OpenedLaws.{found_opened, input_found, opened_as}
+use Rattle.elf_resolve.proofs.OpenedLaws.{input_found, opened_as}
 use Rattle.elf_resolve.proofs.ResolvedLaws.{input_missing, input_object, link_still, linking_by, on_ok_then, set_here, set_there}
 
 -- AN INPUT IS REACHED
-done_state : (old new : List InputState) (archives : List OpenedArchive) (index i : ℕ) → slice_get old index ≡ Some state.New → new ≡ set old index state.Done → IsStateOf (slice_get old i) archives i → IsStateOf (slice_get new i) archives i
+done_state : (old new : List InputState) (archives : List OpenedArchive) (index i : ℕ) → slice_get old index ≡ Some state.New → new ≡ set old index state.Done → IsInputState (slice_get old i) archives i → IsInputState (slice_get new i) archives i
 done_state old new archives index i is_new states is = by (eqb_tells index i) where
-  as_done : (s : Option InputState) → s ≡ Some state.New → IsStateOf s archives i → IsStateOf (Some state.Done) archives i
-  as_done s is_new_here holds = subst (λ (o : Option InputState). IsStateOf o archives i) is_new_here holds
+  as_done : (s : Option InputState) → s ≡ Some state.New → IsInputState s archives i → IsInputState (Some state.Done) archives i
+  as_done s is_new_here holds = subst (λ (o : Option InputState). IsInputState o archives i) is_new_here holds
 
-  by : ((eqb index i ≡ true) × (index ≡ i)) ⊎ ((eqb index i ≡ false) × (index ≢ i)) → IsStateOf (slice_get new i) archives i
+  by : ((eqb index i ≡ true) × (index ≡ i)) ⊎ ((eqb index i ≡ false) × (index ≢ i)) → IsInputState (slice_get new i) archives i
   by (inl (yes_is, same)) =
       let was : slice_get old i ≡ Some state.New = ap (λ n. slice_get old n) (sym same) ∙ is_new in
       let here : slice_get new i ≡ Some state.Done = ap (λ s. slice_get s i) states ∙ ap (λ n. slice_get (set old n state.Done) i) same ∙ set_here old i state.Done state.New was in
-      subst (λ s. IsStateOf s archives i) (sym here) (as_done (slice_get old i) was is)
+      subst (λ s. IsInputState s archives i) (sym here) (as_done (slice_get old i) was is)
   by (inr (no_is, differ)) =
       let there : slice_get new i ≡ slice_get old i = ap (λ s. slice_get s i) states ∙ set_there old index i state.Done differ in
-      subst (λ s. IsStateOf s archives i) (sym there) is
+      subst (λ s. IsInputState s archives i) (sym there) is
 
 pub reached_link : (files : LinkFiles) (old new : Resolver) (index : ℕ) → IsLink files old → slice_get old.states.items index ≡ Some state.New → new ≡ record old { states = new.states } → new.states.items ≡ set old.states.items index state.Done → IsLink files new
 reached_link files old new index is is_new same states = record {
@@ -55,7 +54,7 @@ reached_link files old new index is is_new same states = record {
   opened = subst (λ (r : Resolver). AreOpened files r.tables.members.items (length r.tables.entries.items) 0 r.tables.archives.items) (sym same) is.opened;
   distinct = subst (λ (r : Resolver). AreDistinctArchives r.tables.archives.items) (sym same) is.distinct;
   states = λ i.
-      subst (λ (r : Resolver). IsStateOf (slice_get new.states.items i) r.tables.archives.items i) (sym same)
+      subst (λ (r : Resolver). IsInputState (slice_get new.states.items i) r.tables.archives.items i) (sym same)
       (done_state old.states.items new.states.items old.tables.archives.items index i is_new states (is.states i));
 }
 
@@ -130,7 +129,7 @@ pub done_again : (files : LinkFiles) (old : Resolver) (i : ℕ) → IsLink files
     → TookInput files old old i (input_made (is_new_input old.states.items i) (linking_of old) i (files_as_inputs files i))
 done_again files old i is done =
     let old_state : is_new_input old.states.items i ≡ false = ap is_new_state done in
-    let none : archive_of_input old.tables.archives.items i ≡ None = subst (λ (s : Option InputState). IsStateOf s old.tables.archives.items i) done (is.states i) in
+    let none : archive_of_input old.tables.archives.items i ≡ None = subst (λ (s : Option InputState). IsInputState s old.tables.archives.items i) done (is.states i) in
     let closed : opened_at (linking_of old).archives i ≡ None =
     opened_as old.tables.entries.items old.taken.items old.tables.archives.items i ∙ ap (λ o. option_map (open_archive old.tables.entries.items old.taken.items) o) none in
     record {
@@ -144,14 +143,14 @@ done_again files old i is done =
 -- the archive that a state names
 pub archive_found : (files : LinkFiles) (old : Resolver) (i k : ℕ) → IsLink files old → slice_get old.states.items i ≡ Some (state.Archive k)
     → (a : OpenedArchive) × (slice_get old.tables.archives.items k ≡ Some a) × (archive_of_input old.tables.archives.items i ≡ Some a)
-archive_found files old i k is at = subst (λ (s : Option InputState). IsStateOf s old.tables.archives.items i) at (is.states i)
+archive_found files old i k is at = subst (λ (s : Option InputState). IsInputState s old.tables.archives.items i) at (is.states i)
 
 again_searched : (link : Linking) (i : ℕ) (a : OpenArchive) (file : InputFile) (count : ℕ) (symbols : List IndexSymbol) (members : ArchiveMembers) → opened_at link.archives i ≡ Some a → file ≡ SearchedFile count symbols members
     → input_again link i file ≡ archive_again link a members
 unfolding input_again
 again_searched link i a file count symbols members found is = ap (λ f. input_again link i f) is ∙ ap (λ o. again_at link o members) found
 
-pub archive_again_taken : (files : LinkFiles) (old new : Resolver) (i k : ℕ) (a : OpenedArchive) (opened : IsOpened files old.tables.members.items (length old.tables.entries.items) 0 a) → IsLink files old → slice_get old.states.items i ≡ Some (state.Archive k)
+pub archive_again_taken : (files : LinkFiles) (old new : Resolver) (i k : ℕ) (a : OpenedArchive) (opened : IsOpenedArchive files old.tables.members.items (length old.tables.entries.items) 0 a) → IsLink files old → slice_get old.states.items i ≡ Some (state.Archive k)
     → archive_of_input old.tables.archives.items i ≡ Some a
     → TookMembers old new (archive_again (linking_of old) (open_archive old.tables.entries.items old.taken.items a) (members_as_objects opened.file (link_members opened.file).members files.headers))
     → TookInput files old new i (input_made (is_new_input old.states.items i) (linking_of old) i (files_as_inputs files i))

@@ -1,5 +1,5 @@
 -- The members of an archive as objects.
-use Rattle.std.specs.Prelude.{ℕ, ◌≡◌, Bool, false, List, [], map, option_and_then, option_map, Option, None, Some}
+use Rattle.std.specs.Prelude.{ℕ, ◌≡◌, false, List, [], map, option_map, Option, None, Some}
 use Rattle.elf_model.specs.Archive.{FileRange}
 use Rattle.elf_model.specs.LinkArchives.{link_members, members_as_objects, name_table}
 use Rattle.elf_model.specs.LinkPasses.{ArchiveMembers}

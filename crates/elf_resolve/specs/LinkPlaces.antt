@@ -1,8 +1,8 @@
 -- Where a link is among its steps.
-use Rattle.std.specs.Prelude.{ℕ, ◌≡◌, ◌≢◌, ◌+◌, ◌≤◌, ◌<◌, if◌then◌else◌, Bool, true, false, List, [], ◌∷◌, ◌++◌, drop, length, Option, None, Some}
+use Rattle.std.specs.Prelude.{ℕ, ◌≡◌, ◌+◌, ◌≤◌, ◌<◌, Bool, true, false, List, [], ◌∷◌, ◌++◌, drop, length, Option, None, Some}
 use Rattle.std.specs.List.{slice_get}
 use Rattle.elf_model.specs.LinkInputs.{InputFile, LinkInputs, Linking, group_settled, input_again, input_taken, inputs_again, inputs_taken}
-use Rattle.elf_resolve.specs.Plans.{steps_of}
+use Rattle.elf_resolve.specs.Plans.{plan_steps}
 use Rattle.elf_resolve.specs.declared.link_files.LinkStep.{LinkStep}
 use Rattle.elf_resolve.specs.declared.link_files.LinkStep.TheVariants as step
 use Rattle.elf_resolve.specs.declared.resolver.InputState.{InputState}
@@ -29,7 +29,7 @@ pub record EnteredGroup : Type 0 where
 -- the steps after the end of a round, from the innermost group on
 abbrev pub steps_after : List EnteredGroup → List LinkStep
 steps_after [] = []
-steps_after (g ∷ groups) = step.Close ∷ (steps_of g.rest ++ steps_after groups)
+steps_after (g ∷ groups) = step.Close ∷ (plan_steps g.rest ++ steps_after groups)
 
 module _ (files : ℕ → InputFile) where
   -- inputs taken for the first time, or once more
@@ -50,7 +50,7 @@ input_made false link index file = input_again link index file
 -- the groups as a resolver has them
 pub record IsGroupAt (steps : List LinkStep) (g : EnteredGroup) (groups : List EnteredGroup) (open_group : OpenGroup) : Type 0 where
   pub asked : open_group.asked ≡ g.asked
-  pub first : drop open_group.first steps ≡ steps_of g.group ++ (step.Close ∷ (steps_of g.rest ++ steps_after groups))
+  pub first : drop open_group.first steps ≡ plan_steps g.group ++ (step.Close ∷ (plan_steps g.rest ++ steps_after groups))
 
 abbrev pub AreGroupsAt : List LinkStep → List EnteredGroup → List OpenGroup → Type 0
 AreGroupsAt steps [] open_groups = open_groups ≡ []
@@ -68,7 +68,7 @@ IsRoundAfter true reached count here after = count < reached + after
 
 abbrev pub AreRoundsAfter : (reached count : ℕ) → List EnteredGroup → Type 0
 AreRoundsAfter reached count [] = Unit {0}
-AreRoundsAfter reached count (g ∷ groups) = IsRoundAfter g.again reached count (length (steps_of g.rest)) (length (steps_after groups)) × AreRoundsAfter reached count groups
+AreRoundsAfter reached count (g ∷ groups) = IsRoundAfter g.again reached count (length (plan_steps g.rest)) (length (steps_after groups)) × AreRoundsAfter reached count groups
 
 -- inputs before a step were reached, and those from there on were not
 pub record IsReached (steps : List LinkStep) (is_new : ℕ → Bool) (reached : ℕ) : Type 0 where
@@ -81,9 +81,9 @@ pub record IsLinkAt (files : ℕ → InputFile) (whole : Linking) (steps : List 
   pub again : Bool
   pub groups : List EnteredGroup
   pub reached : ℕ
-  pub steps_left : drop place steps ≡ steps_of left ++ steps_after groups
+  pub steps_left : drop place steps ≡ plan_steps left ++ steps_after groups
   pub makes : groups_ended files groups (inputs_made files again left link) ≡ whole
   pub groups_are : AreGroupsAt steps groups open_groups
-  pub round : IsRoundAt again reached (length steps) (length (steps_of left)) (length (steps_after groups))
+  pub round : IsRoundAt again reached (length steps) (length (plan_steps left)) (length (steps_after groups))
   pub rounds : AreRoundsAfter reached (length steps) groups
   pub is_reached : IsReached steps is_new reached

@@ -23,10 +23,10 @@ AreDistinctArchives [] = Unit {0}
 AreDistinctArchives (archive ∷ archives) = (archive_of_input archives archive.input ≡ None) × AreDistinctArchives archives
 
 -- what is done at an input once more is to search its archive, if it is opened
-abbrev pub IsStateOf : Option InputState → List OpenedArchive → (input : ℕ) → Type 0
-IsStateOf (Some (state.Archive index)) archives input = (archive : OpenedArchive) × (slice_get archives index ≡ Some archive) × (archive_of_input archives input ≡ Some archive)
-IsStateOf (Some (state.Library index)) archives input = ⊥
-IsStateOf _ archives input = archive_of_input archives input ≡ None
+abbrev pub IsInputState : Option InputState → List OpenedArchive → (input : ℕ) → Type 0
+IsInputState (Some (state.Archive index)) archives input = (archive : OpenedArchive) × (slice_get archives index ≡ Some archive) × (archive_of_input archives input ≡ Some archive)
+IsInputState (Some (state.Library index)) archives input = ⊥
+IsInputState _ archives input = archive_of_input archives input ≡ None
 
 -- marks are what they were but for those of a range
 pub record SameOutside (old new : List Bool) (range : ℕ × ℕ) : Type 0 where
@@ -45,7 +45,7 @@ archive_in archive file headers = record { input = archive.input; row = archive.
 
 -- AN ARCHIVE IS OPENED: its input is an archive that is searched, and its members and entries are
 -- among those of all, the members from an index on
-pub record IsOpened (files : LinkFiles) (members : List ℕ) (entries from : ℕ) (archive : OpenedArchive) : Type 0 where
+pub record IsOpenedArchive (files : LinkFiles) (members : List ℕ) (entries from : ℕ) (archive : OpenedArchive) : Type 0 where
   pub file : List ℕ
   pub count : ℕ
   pub symbols : List IndexSymbol
@@ -59,4 +59,4 @@ pub record IsOpened (files : LinkFiles) (members : List ℕ) (entries from : ℕ
 -- and the members of each come after those of the one before it
 abbrev pub AreOpened : (files : LinkFiles) (members : List ℕ) (entries from : ℕ) → List OpenedArchive → Type 0
 AreOpened files members entries from [] = from ≤ length members
-AreOpened files members entries from (archive ∷ archives) = IsOpened files members entries from archive × AreOpened files members entries archive.members.1 archives
+AreOpened files members entries from (archive ∷ archives) = IsOpenedArchive files members entries from archive × AreOpened files members entries archive.members.1 archives

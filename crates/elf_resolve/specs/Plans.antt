@@ -12,10 +12,10 @@ use Rattle.elf_resolve.specs.declared.link_files.LinkStep.{LinkStep}
 use Rattle.elf_resolve.specs.declared.link_files.LinkStep.TheVariants as step
 
 -- THE STEPS of inputs in their order: a group's are between its beginning and its end
-abbrev pub steps_of : LinkInputs → List LinkStep
-steps_of NoInputs = []
-steps_of (Input index rest) = step.Input index ∷ steps_of rest
-steps_of (Group group rest) = step.Open ∷ (steps_of group ++ (step.Close ∷ steps_of rest))
+abbrev pub plan_steps : LinkInputs → List LinkStep
+plan_steps NoInputs = []
+plan_steps (Input index rest) = step.Input index ∷ plan_steps rest
+plan_steps (Group group rest) = step.Open ∷ (plan_steps group ++ (step.Close ∷ plan_steps rest))
 
 -- no input is taken at two steps
 abbrev pub AreDistinctSteps : List LinkStep → Type 0

@@ -10,7 +10,7 @@ use Rattle.elf_model.specs.declared.link_states.LinkRow.{LinkRow}
 use Rattle.elf_model.specs.declared.link_states.LinkRowKind.TheVariants.{Archive}
 use Rattle.elf_resolve.specs.LinkMembers.{whole_file}
 use Rattle.elf_resolve.specs.LinkPlaces.{IsLinkAt, is_new_input}
-use Rattle.elf_resolve.specs.OpenedArchives.{AreDistinctArchives, AreOpened, IsStateOf}
+use Rattle.elf_resolve.specs.OpenedArchives.{AreDistinctArchives, AreOpened, IsInputState}
 use Rattle.elf_resolve.specs.Plans.{IsKnownFile, file_of_kind, is_archive_kind}
 use Rattle.elf_resolve.specs.Resolved.{linking_of}
 use Rattle.elf_resolve.specs.RowTables.{AddedRow}
@@ -30,7 +30,7 @@ pub record IsLink (files : LinkFiles) (link : Resolver) : Type 0 where
   pub marked : length link.taken.items ≡ length link.tables.members.items
   pub opened : AreOpened files link.tables.members.items (length link.tables.entries.items) 0 link.tables.archives.items
   pub distinct : AreDistinctArchives link.tables.archives.items
-  pub states : (input : ℕ) → IsStateOf (slice_get link.states.items input) link.tables.archives.items input
+  pub states : (input : ℕ) → IsInputState (slice_get link.states.items input) link.tables.archives.items input
 
 -- what is at an input of a plan is what it is among the files
 pub record IsPlanned (files : LinkFiles) (known : ℕ → Option (List ℕ)) (index : ℕ) (input : LinkInput) : Type 0 where
@@ -151,6 +151,6 @@ pub record IsFresh (link : Resolver) : Type 0 where
   pub states : (input : ℕ) → is_new_input link.states.items input ≡ true
 
 -- names were asked for by arguments
-pub record Asked (old new : Resolver) (names : List (List ℕ)) : Type 0 where
+pub record AskedNames (old new : Resolver) (names : List (List ℕ)) : Type 0 where
   pub same : new ≡ record old { link = record old.link { keys = new.link.keys } }
   pub keys : new.link.keys.keys ≡ symbols_taken None old.link.keys.keys (map argument_symbol names)

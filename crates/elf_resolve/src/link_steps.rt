@@ -7,9 +7,9 @@ ghost use Rattle.elf_model.specs.LinkInputs.{LinkInputs, Linking, file_row, inpu
 ghost use Rattle.elf_source.specs.Prelude.{IsWholeRange};
 ghost use Rattle.elf_resolve.specs.LinkMembers.{whole_file};
 ghost use Rattle.elf_resolve.specs.LinkPlaces.{IsLinkAt, input_made, is_new_input};
-ghost use Rattle.elf_resolve.specs.Plans.{IsStaticPlan, planned_files, steps_of};
+ghost use Rattle.elf_resolve.specs.Plans.{IsStaticPlan, planned_files, plan_steps};
 ghost use Rattle.elf_resolve.specs.Resolved.{linking_of};
-ghost use Rattle.elf_resolve.specs.ResolvedInputs.{AddedRowOf, Asked, IsAtStep, IsFresh, IsLink, IsPlanned, OpenedGroup, TookAll, TookInput};
+ghost use Rattle.elf_resolve.specs.ResolvedInputs.{AddedRowOf, AskedNames, IsAtStep, IsFresh, IsLink, IsPlanned, OpenedGroup, TookAll, TookInput};
 
 use crate::archive_searches::element_at;
 use crate::link_faults::{LinkFault, refused};

@@ -7,9 +7,9 @@ ghost use Rattle.elf_model.specs.LinkInputs.{LinkInputs, Linking, file_row, inpu
 ghost use Rattle.elf_source.specs.Prelude.{IsWholeRange};
 ghost use Rattle.elf_resolve.specs.LinkMembers.{whole_file};
 ghost use Rattle.elf_resolve.specs.LinkPlaces.{IsLinkAt, input_made, is_new_input};
-ghost use Rattle.elf_resolve.specs.Plans.{IsStaticPlan, planned_files, steps_of};
+ghost use Rattle.elf_resolve.specs.Plans.{IsStaticPlan, planned_files, plan_steps};
 ghost use Rattle.elf_resolve.specs.Resolved.{linking_of};
-ghost use Rattle.elf_resolve.specs.ResolvedInputs.{AddedRowOf, Asked, IsAtStep, IsFresh, IsLink, IsPlanned, OpenedGroup, TookAll, TookInput};
+ghost use Rattle.elf_resolve.specs.ResolvedInputs.{AddedRowOf, AskedNames, IsAtStep, IsFresh, IsLink, IsPlanned, OpenedGroup, TookAll, TookInput};
 
 use crate::archives::ArchiveTables;
 use crate::key_chains::KeyChains;
@@ -142,7 +142,7 @@ impl<'a> Resolver<'a> {
     /// There is no room for it.
     #[tactic(auto, unfolding(elf_model::specs::LinkKeys::symbol_taken))]
     pub fn ask(&mut self, name: &[u8]) -> Result<(), LinkFault>
-        ensures { OnOk result (Asked self.old self.new (name.now ∷ [])) }
+        ensures { OnOk result (AskedNames self.old self.new (name.now ∷ [])) }
     {
         match self.link.keys.use_name(name, ASKED, None) {
             Ok(()) => Ok(()),
@@ -161,7 +161,7 @@ impl<'a> Resolver<'a> {
         plan: &LinkPlan,
     ) -> Result<(), LinkFault>
         ensures { (inputs : LinkInputs) → IsFresh self.old →
-            IsStaticPlan (F.file files.old) plan.now → steps_of inputs ≡ plan.now.steps.items →
+            IsStaticPlan (F.file files.old) plan.now → plan_steps inputs ≡ plan.now.steps.items →
             self.new.end ≡ None → OnOk result (linking_of self.new ≡ linked
             (files_as_inputs (planned_files (F.file files.old) plan.now
             self.old.room.headers)) (map (λ name. name.now) asked.now) inputs) }
@@ -211,7 +211,7 @@ impl<'a> Resolver<'a> {
         plan: &LinkPlan,
     ) -> Result<(), LinkFault>
         ensures { (inputs : LinkInputs) → IsFresh self.old →
-            IsStaticPlan (F.file files.old) plan.now → steps_of inputs ≡ plan.now.steps.items →
+            IsStaticPlan (F.file files.old) plan.now → plan_steps inputs ≡ plan.now.steps.items →
             OnOk result (linking_of self.new ≡ linked
             (files_as_inputs (planned_files (F.file files.old) plan.now
             self.old.room.headers)) (map (λ name. name.now) asked.now) inputs) }
@@ -231,7 +231,7 @@ impl<'a> Resolver<'a> {
         plan: &LinkPlan,
     ) -> Result<(), LinkFault>
         ensures { (inputs : LinkInputs) → IsFresh self.old →
-            IsStaticPlan (F.file files.old) plan.now → steps_of inputs ≡ plan.now.steps.items →
+            IsStaticPlan (F.file files.old) plan.now → plan_steps inputs ≡ plan.now.steps.items →
             let all = planned_files (F.file files.old) plan.now self.old.room.headers in
             OnOk result (TookAll all self.new
             (linked (files_as_inputs all) (map (λ name. name.now) asked.now) inputs)) }
@@ -245,7 +245,7 @@ impl<'a> Resolver<'a> {
     /// # Errors
     /// There is no room for one.
     fn ask_all(&mut self, asked: &[&str]) -> Result<(), LinkFault>
-        ensures { OnOk result (Asked self.old self.new (map (λ name. name.now) asked.now)) }
+        ensures { OnOk result (AskedNames self.old self.new (map (λ name. name.now) asked.now)) }
     {
         for name in asked {
             self.ask(name.as_bytes())?;

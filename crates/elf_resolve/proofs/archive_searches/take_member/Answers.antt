@@ -1,4 +1,4 @@
-use Rattle.std.proofs.Common.{ap, subst, ◌∙◌}
+use Rattle.std.proofs.Common.{subst}
 use Rattle.std.specs.Prelude.{OnOk}
 use Rattle.elf_model.specs.LinkArchives.{members_as_objects}
 use Rattle.elf_model.specs.LinkPasses.{ArchiveMembers}

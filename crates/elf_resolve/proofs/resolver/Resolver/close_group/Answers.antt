@@ -1,5 +1,4 @@
-use Rattle.std.proofs.Common.{◌≡◌, ◌++◌, [], ◌∷◌, false, sym, ap, ◌∙◌, refl}
-use Rattle.std.specs.Prelude.{◌==◌, option_to_list}
+use Rattle.std.proofs.Common.{sym, ◌∙◌, refl}
 use Rattle.elf_table.proofs.Absent.{none-of}
 use Rattle.std.proofs.lemmas.List.{nil_from_length}
 use Rattle.elf_resolve.proofs.StepLaws.{differ_false, step_closes, step_has_group, step_repeats}

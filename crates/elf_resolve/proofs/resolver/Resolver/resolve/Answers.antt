@@ -1,4 +1,4 @@
-use Rattle.std.proofs.Common.{sym, ap, ◌∙◌}
+use Rattle.std.proofs.Common.{◌∙◌}
 use Rattle.elf_resolve.proofs.ResolvedLaws.{on_ok, on_ok_then}
 use Rattle.elf_resolve.proofs.resolver.Resolver.resolve.Goals as goal
 

@@ -1,4 +1,4 @@
-use Rattle.std.proofs.Common.{sym, ap, ◌∙◌}
+use Rattle.std.proofs.Common.{ap, ◌∙◌}
 use Rattle.elf_resolve.specs.Resolved.{linking_of}
 use Rattle.elf_resolve.specs.declared.resolver.Resolver.{Resolver}
 use Rattle.elf_resolve.proofs.ResolvedLaws.{on_ok_from}

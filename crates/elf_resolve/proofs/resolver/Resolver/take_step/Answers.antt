@@ -3,7 +3,6 @@ use Rattle.std.specs.Prelude.{None, Some}
 use Rattle.std.specs.List.{slice_get}
 use Rattle.elf_resolve.specs.Plans.{planned_files}
 use Rattle.elf_resolve.specs.declared.link_files.LinkStep.TheVariants as step
-use Rattle.elf_resolve.specs.declared.resolver.Resolver.{Resolver}
 use Rattle.elf_resolve.proofs.StepLaws.{row_link_still, step_opens, step_takes, took_from_row}
 use Rattle.elf_resolve.proofs.resolver.Resolver.take_step.Goals as goal
 

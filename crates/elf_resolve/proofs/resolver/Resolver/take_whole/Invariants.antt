@@ -1,4 +1,4 @@
-use Rattle.std.proofs.Common.{◌≡◌, ℕ, List, drop, length}
+use Rattle.std.proofs.Common.{◌≡◌, ℕ, List, drop}
 use Rattle.std.specs.Prelude.{Some}
 use Rattle.elf_model.specs.LinkArchives.{link_members, whole_members}
 use Rattle.elf_model.specs.LinkInputs.{members_taken}
