@@ -222,3 +222,20 @@ pub group_is_least : (files : ℕ → InputFile) (group : LinkInputs) (link : Li
 unfolding group_settled
 group_is_least files group link asked most distinct below =
     rounds_enough most (suc (untaken_in link.archives)) (inputs_again files group) asked link (inputs_shrink files group) distinct below (omega arith)
+
+-- A ROUND MORE, or none
+pub group_done : (files : ℕ → InputFile) (group : LinkInputs) (link : Linking) (asked : ℕ) → link.keys.asked ≡ asked → group_settled (inputs_again files group) asked link ≡ link
+unfolding group_settled
+group_done files group link asked same = settled (suc (untaken_in link.archives)) (inputs_again files group) asked link same
+
+pub group_more : (files : ℕ → InputFile) (group : LinkInputs) (link : Linking) (asked : ℕ) → AreDistinctInputs link.archives → (link.keys.asked == asked) ≡ false
+    → group_settled (inputs_again files group) asked link ≡ group_settled (inputs_again files group) link.keys.asked (inputs_again files group link)
+unfolding group_settled
+group_more files group link asked distinct differs =
+    let round = inputs_again files group in
+    let keeps = inputs_shrink files group in
+    let first = keeps link distinct in
+    ap (λ b. if b then link else rounds_made (untaken_in link.archives) round link.keys.asked (round link)) differs
+    ∙ further (untaken_in link.archives) (suc (untaken_in (round link).archives)) round link first
+    (λ less. rounds_enough (untaken_in link.archives) (suc (untaken_in (round link).archives)) round link.keys.asked (round link) keeps first.distinct less (omega arith))
+    (less_or_same (untaken_in (round link).archives) (untaken_in link.archives) first.fewer)

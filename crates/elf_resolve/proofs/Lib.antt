@@ -46,3 +46,8 @@ pub mod GroupTakenLaws
 pub mod GroupFoundLaws
 pub mod SectionTakenLaws
 pub mod LinkedSymbolLaws
+pub mod PlaceLaws
+pub mod OpenedLaws
+pub mod ResolvedLaws
+pub mod TakenLaws
+pub mod StepLaws

@@ -35,3 +35,7 @@ pub mod ObjectParts
 pub mod ObjectNames
 pub mod SectionGroups
 pub mod Objects
+pub mod Plans
+pub mod LinkPlaces
+pub mod OpenedArchives
+pub mod ResolvedInputs

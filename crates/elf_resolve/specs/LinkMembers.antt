@@ -30,6 +30,12 @@ abbrev pub range_before : Option FileRange → (at : ℕ) → Option FileRange
 range_before None at = None
 range_before (Some table) at = if nat_le table.at at then Some table else None
 
+-- offsets are those of the headers of an archive's members, and a range is that of its table of names
+pub record AreMembersOf (file : List ℕ) (offsets : List ℕ) (names : Option FileRange) : Type 0 where
+  pub unrefused : members_refusal file ≡ None
+  pub offsets_are : offsets ≡ map header_of (link_members file).members
+  pub names_are : names ≡ option_map data_of (name_table file (link_members file).members)
+
 -- THEY ARE KNOWN: the file is, it is an archive, and the headers are those of its members
 pub record KnownMembers (whole : Option RangeParent) (offsets : List ℕ) (names : Option FileRange) : Type 0 where
   pub file : List ℕ

@@ -1,16 +1,30 @@
 //! The archives among the inputs of a link, and which of their members are taken.
+ghost use Rattle.std.specs.Prelude.{◌≡◌, ◌≤◌, ◌++◌, ℕ, List, [], ◌∷◌, OnOk, IfOk, IsErr, Some, drop, false, length, map, replicate};
+ghost use Rattle.std.specs.List.{slice_get};
+ghost use Rattle.elf_model.specs.Archive.{bytes_in};
+ghost use Rattle.elf_model.specs.LinkArchives.{LinkFiles, LinkMember, files_as_inputs, link_members, member_bytes, members_as_objects, or_empty, whole_members};
+ghost use Rattle.elf_model.specs.LinkInputs.{archive_again, input_taken, members_taken, whole_row, with_object};
+ghost use Rattle.elf_model.specs.LinkPasses.{archive_searched};
+ghost use Rattle.elf_model.specs.LinkSymbols.{object_of};
+ghost use Rattle.elf_resolve.specs.LinkMembers.{file_of_range};
+ghost use Rattle.elf_resolve.specs.OpenedArchives.{HasMembers, SameOutside, archive_in, archive_of_input};
+ghost use Rattle.elf_resolve.specs.Passing.{TookObject, pass_of};
 ghost use Rattle.elf_resolve.specs.Ranges.{IsRangeOf};
+ghost use Rattle.elf_resolve.specs.Resolved.{elements_in, linking_of, open_archive};
+ghost use Rattle.elf_resolve.specs.ResolvedInputs.{EntersIndex, IsArchiveAt, IsLink, KeepsArchives, KeptArchive, OpenedAs, TookInput, TookMembers};
+ghost use Rattle.elf_resolve.specs.Taken.{header_of};
 
 use crate::archive_index::read_index;
-use crate::archives::{ArchiveTables, OpenedArchive};
+use crate::archive_searches::{
+    MemberPlace, add_marks, element_at, member_row, range_of, search_members, take_member,
+};
+use crate::archives::OpenedArchive;
 use crate::link_faults::{LinkFault, refused};
 use crate::link_files::InputFiles;
-use crate::members::{MembersOfArchive, is_file};
-use crate::passes::{ArchiveInput, Link, search_archive};
+use crate::members::is_file;
 use crate::resolver::{InputState, Resolver};
-use crate::room::LinkRoom;
-use crate::table::{KeyTable, LinkStop};
-use elf_model::{LinkCause, LinkRow, LinkRowKind};
+use crate::table::LinkStop;
+use elf_model::{LinkCause, LinkRowKind};
 use elf_source::{Counted, RangeSource, Source};
 
 impl Resolver<'_> {
@@ -23,36 +37,103 @@ impl Resolver<'_> {
         src: &mut Counted<RangeSource<S>>,
         is_whole: bool,
         input: u32,
-    ) -> Result<(), LinkFault> {
+    ) -> Result<(), LinkFault>
+        ensures { (files : LinkFiles) (file : List ℕ) → IsLink files self.old →
+            IsArchiveAt files file self.old src.old.seen is_whole input →
+            OnOk result (TookInput files self.old self.new input
+            (input_taken (linking_of self.old) input (files_as_inputs files input))) }
+    {
+        let archive = self.open_archive(src, is_whole, input)?;
+        if is_whole {
+            return self.take_whole(src, archive);
+        }
+        self.keep_archive(archive)?;
+        self.search(src, archive)
+    }
+
+    /// Adds the row of an archive, and reads its members, and its index unless all members are
+    /// taken.
+    ///
+    /// # Errors
+    /// The first fault of the archive and its index; there is no room for them.
+    fn open_archive<S: Source>(
+        &mut self,
+        src: &mut Counted<RangeSource<S>>,
+        is_whole: bool,
+        input: u32,
+    ) -> Result<OpenedArchive, LinkFault>
+        ensures below { src.new.seen.whole ≡ src.old.seen.whole }
+        ensures opens { (file : List ℕ) → src.old.seen.file ≡ Some file →
+            length self.old.taken.items ≡ length self.old.tables.members.items →
+            IfOk result (OpenedAs file is_whole input self.old self.new) }
+    {
         let row = self.add_row(LinkRowKind::Archive, input)?;
         let first = self.tables.members.len();
         let entries = self.tables.entries.len();
         let names = self.tables.walk(src)?;
-        let _ = self.taken.resize(self.tables.members.len(), false);
-        if !is_whole {
-            let keys = &mut self.link.keys;
-            read_index(
-                src,
-                &mut self.tables,
-                first,
-                &mut self.room.tables.strings,
-                keys,
-            )?;
-        }
-        let archive = OpenedArchive {
+        let count = self.tables.members.len();
+        self.mark_members(count.saturating_sub(first))?;
+        self.read_names(src, is_whole, first)?;
+        Ok(OpenedArchive {
             input,
             row,
-            members: (first, self.tables.members.len()),
+            members: (first, count),
             entries: (entries, self.tables.entries.len()),
             names,
-        };
+        })
+    }
+
+    /// Adds marks of members that are not taken.
+    ///
+    /// # Errors
+    /// There is no room for them.
+    fn mark_members(&mut self, count: usize) -> Result<(), LinkFault>
+        ensures same { self.new ≡ record self.old { taken = self.new.taken } }
+        ensures marks { OnOk result
+            (self.new.taken.items ≡ self.old.taken.items ++ replicate count false) }
+    {
+        add_marks(&mut self.taken, count)
+    }
+
+    /// Enters the names of an archive's index, whose members, from `first` on, are the last ones,
+    /// unless all members are taken.
+    ///
+    /// # Errors
+    /// Those of the index.
+    fn read_names<S: Source>(
+        &mut self,
+        src: &mut Counted<RangeSource<S>>,
+        is_whole: bool,
+        first: usize,
+    ) -> Result<(), LinkFault>
+        ensures below { src.new.seen.whole ≡ src.old.seen.whole }
+        ensures keeps { KeepsArchives self.old self.new }
+        ensures enters { (file : List ℕ) → src.old.seen.file ≡ Some file →
+            drop first self.old.tables.members.items ≡ map header_of (link_members file).members →
+            first ≤ length self.old.tables.members.items →
+            OnOk result (EntersIndex is_whole file self.old self.new) }
+    {
         if is_whole {
-            return self.take_whole(src, archive);
+            return Ok(());
         }
+        let keys = &mut self.link.keys;
+        let strings = &mut self.room.tables.strings;
+        read_index(src, &mut self.tables, first, strings, keys)
+    }
+
+    /// Keeps an archive, which is then the state of its input.
+    ///
+    /// # Errors
+    /// There is no room for it.
+    fn keep_archive(&mut self, archive: OpenedArchive) -> Result<(), LinkFault>
+        ensures { OnOk result (KeptArchive self.old self.new archive) }
+    {
         let index = self.tables.archives.len();
-        self.set_state(input, InputState::Archive(index));
-        let _ = self.tables.archives.push(archive);
-        self.search(src, archive)
+        self.set_state(archive.input, InputState::Archive(index));
+        if self.tables.archives.push(archive).is_err() {
+            return refused(0, LinkCause::TooManyRows);
+        }
+        Ok(())
     }
 
     /// Searches an archive once more.
@@ -63,8 +144,18 @@ impl Resolver<'_> {
         &mut self,
         files: &mut F,
         archive: usize,
-    ) -> Result<(), LinkFault> {
-        let Some(archive) = self.tables.archives.get(archive).copied() else {
+    ) -> Result<(), LinkFault>
+        ensures file { F.file files.new ≡ F.file files.old }
+        ensures searches { (all : LinkFiles) (a : OpenedArchive) (file : List ℕ) →
+            IsLink all self.old →
+            slice_get self.old.tables.archives.items archive ≡ Some a →
+            archive_of_input self.old.tables.archives.items a.input ≡ Some a →
+            all.file a.input ≡ Some file → F.file files.old a.input ≡ Some file →
+            OnOk result (TookMembers self.old self.new (archive_again (linking_of self.old)
+            (open_archive self.old.tables.entries.items self.old.taken.items a)
+            (members_as_objects file (link_members file).members all.headers))) }
+    {
+        let Some(archive) = element_at(&self.tables.archives, archive) else {
             return Ok(());
         };
         let mut src = self.open(files, archive.input)?;
@@ -81,7 +172,14 @@ impl Resolver<'_> {
         &mut self,
         src: &mut Counted<RangeSource<S>>,
         archive: OpenedArchive,
-    ) -> Result<(), LinkFault> {
+    ) -> Result<(), LinkFault>
+        ensures { (files : LinkFiles) (file : List ℕ) → IsLink files self.old →
+            archive_of_input self.old.tables.archives.items archive.input ≡ Some archive →
+            files.file archive.input ≡ Some file → file_of_range src.old.seen ≡ Some file →
+            OnOk result (TookMembers self.old self.new (archive_again (linking_of self.old)
+            (open_archive self.old.tables.entries.items self.old.taken.items archive)
+            (members_as_objects file (link_members file).members files.headers))) }
+    {
         let found = search_members(
             &mut self.link,
             &mut self.room,
@@ -106,7 +204,9 @@ impl Resolver<'_> {
         stop: LinkStop,
         fault: Option<LinkFault>,
         asked: Option<u32>,
-    ) -> Result<(), LinkFault> {
+    ) -> Result<(), LinkFault>
+        ensures { IsErr result }
+    {
         self.row = None;
         if matches!(stop, LinkStop::TooManyRows) {
             return refused(0, LinkCause::TooManyRows);
@@ -131,9 +231,18 @@ impl Resolver<'_> {
         &mut self,
         src: &mut Counted<RangeSource<S>>,
         archive: OpenedArchive,
-    ) -> Result<(), LinkFault> {
+    ) -> Result<(), LinkFault>
+        ensures { (file : List ℕ) → file_of_range src.old.seen ≡ Some file →
+            HasMembers file self.old.tables.members.items archive →
+            OnOk result (TookMembers self.old self.new (members_taken archive.input archive.row
+            (linking_of self.old)
+            (whole_members file 0 (link_members file).members self.old.room.headers))) }
+    {
         let count = range_of(&self.tables.members, archive.members).len();
-        for number in 0..u32::try_from(count).unwrap_or(u32::MAX) {
+        let Ok(count) = u32::try_from(count) else {
+            return refused(0, LinkCause::TooManyRows);
+        };
+        for number in 0..count {
             self.take_if_file(src, archive, number)?;
         }
         Ok(())
@@ -148,127 +257,51 @@ impl Resolver<'_> {
         src: &mut Counted<RangeSource<S>>,
         archive: OpenedArchive,
         member: u32,
-    ) -> Result<(), LinkFault> {
+    ) -> Result<(), LinkFault>
+        ensures below { src.new.seen.whole ≡ src.old.seen.whole }
+        ensures takes { (file : List ℕ) (m : LinkMember) → file_of_range src.old.seen ≡ Some file →
+            HasMembers file self.old.tables.members.items archive →
+            slice_get (link_members file).members member ≡ Some m →
+            OnOk result (TookMembers self.old self.new (members_taken archive.input archive.row
+            (linking_of self.old) (whole_members file member (m ∷ []) self.old.room.headers))) }
+    {
         let members = range_of(&self.tables.members, archive.members);
         let is_taken = is_file(src, members, member)?;
         if !is_taken {
             return Ok(());
         }
+        self.take_row(src, archive, member)
+    }
+
+    /// Takes a member of an archive, which is a file.
+    ///
+    /// # Errors
+    /// The first fault of the member; there is no room for its row.
+    fn take_row<S: Source>(
+        &mut self,
+        src: &mut Counted<RangeSource<S>>,
+        archive: OpenedArchive,
+        member: u32,
+    ) -> Result<(), LinkFault>
+        ensures below { src.new.seen.whole ≡ src.old.seen.whole }
+        ensures takes { (file : List ℕ) (m : LinkMember) → file_of_range src.old.seen ≡ Some file →
+            HasMembers file self.old.tables.members.items archive →
+            slice_get (link_members file).members member ≡ Some m →
+            OnOk result (TookMembers self.old self.new (with_object (linking_of self.old)
+            (whole_row archive.input archive.row member)
+            (or_empty (object_of (bytes_in file m.extent) self.old.room.headers)))) }
+    {
         let row = self.link.rows.add(member_row(archive, member));
         self.row = row;
-        match row {
-            Some(row) => {
-                let place = MemberPlace {
-                    archive,
-                    member,
-                    row,
-                };
-                let keys = &mut self.link.keys;
-                take_member(src, &mut self.room, &self.tables, place, keys)
-            }
-            None => refused(0, LinkCause::TooManyRows),
-        }
-    }
-}
-
-/// A member of an archive, and its row.
-#[derive(Clone, Copy)]
-struct MemberPlace {
-    archive: OpenedArchive,
-    member: u32,
-    row: u32,
-}
-
-/// Takes a member of an archive.
-///
-/// # Errors
-/// The first fault of the member.
-fn take_member<S: Source>(
-    src: &mut Counted<RangeSource<S>>,
-    room: &mut LinkRoom,
-    tables: &ArchiveTables,
-    place: MemberPlace,
-    keys: &mut KeyTable<'_>,
-) -> Result<(), LinkFault> {
-    let members = range_of(&tables.members, place.archive.members);
-    let mut objects = MembersOfArchive {
-        src,
-        room,
-        archive: place.archive,
-        members,
-        fault: None,
-        asked: None,
-    };
-    objects.take_member(place.member, place.row, keys)
-}
-
-/// How a search of an archive ended: its result, and if a member cannot be read its fault, and the
-/// member, if it is one that is not taken.
-#[derive(Drop)]
-struct SearchEnd {
-    ended: Result<(), LinkStop>,
-    fault: Option<LinkFault>,
-    asked: Option<u32>,
-}
-
-/// Takes the members of an archive that its index asks for.
-fn search_members<S: Source>(
-    link: &mut Link<'_>,
-    room: &mut LinkRoom,
-    tables: &ArchiveTables,
-    taken: &mut [bool],
-    src: &mut Counted<RangeSource<S>>,
-    archive: OpenedArchive,
-) -> SearchEnd {
-    let members = range_of(&tables.members, archive.members);
-    let entries = range_of(&tables.entries, archive.entries);
-    let (start, end) = within(archive.members, taken.len());
-    let mut objects = MembersOfArchive {
-        src,
-        room,
-        archive,
-        members,
-        fault: None,
-        asked: None,
-    };
-    let input = ArchiveInput {
-        input: archive.input,
-        row: archive.row,
-    };
-    let ended = search_archive(link, input, &mut taken[start..end], entries, &mut objects);
-    let fault = objects.fault;
-    let asked = objects.asked;
-    SearchEnd {
-        ended,
-        fault,
-        asked,
-    }
-}
-
-/// Returns a range of indexes, or an empty one if it is none of so many elements.
-fn within(range: (usize, usize), count: usize) -> (usize, usize)
-    ensures { IsRangeOf result.0 result.1 count }
-{
-    let (start, end) = range;
-    if start > end || end > count {
-        return (0, 0);
-    }
-    (start, end)
-}
-
-/// Returns the elements from an index to another; none if there are not so many.
-fn range_of<T>(elements: &[T], range: (usize, usize)) -> &[T] {
-    let (start, end) = within(range, elements.len());
-    &elements[start..end]
-}
-
-/// Returns the row of a member that is taken for no key.
-fn member_row(archive: OpenedArchive, member: u32) -> LinkRow {
-    LinkRow {
-        kind: LinkRowKind::Member,
-        input: archive.input,
-        archive: Some(archive.row),
-        member: Some(member),
-        reason: None,
+        let Some(row) = row else {
+            return refused(0, LinkCause::TooManyRows);
+        };
+        let place = MemberPlace {
+            archive,
+            member,
+            row,
+        };
+        let keys = &mut self.link.keys;
+        take_member(src, &mut self.room, &self.tables, place, keys)
     }
 }

@@ -1,5 +1,5 @@
 //! The archives of a link: their members, and the entries of their indexes.
-ghost use Rattle.std.specs.Prelude.{◌≡◌, ◌<◌, ◌^◌, IfOk, List, ℕ, Some, drop, length, map};
+ghost use Rattle.std.specs.Prelude.{◌≡◌, ◌<◌, ◌^◌, [], IfOk, List, ℕ, Some, drop, length, map};
 ghost use Rattle.std.specs.List.Sorted.{IsStrictlyIncreasing};
 ghost use Rattle.elf_archive.specs.Members.{extent_of, extent_of_names, names_passed};
 ghost use Rattle.elf_model.specs.LinkArchives.{LinkMember, link_member_at};
@@ -53,7 +53,10 @@ impl ArchiveTables {
     ///
     /// # Errors
     /// Out of memory.
-    pub(crate) fn new(alloc: Global, index: u32, rows: u32) -> Result<ArchiveTables, AllocError> {
+    pub(crate) fn new(alloc: Global, index: u32, rows: u32) -> Result<ArchiveTables, AllocError>
+        ensures { IfOk result (λ tables. (tables.archives.items ≡ [])
+            × (tables.members.items ≡ [])) }
+    {
         let most = index as usize;
         Ok(ArchiveTables {
             archives: Vec::with_capacity(alloc, rows as usize)?,

@@ -8,11 +8,13 @@
 
 mod archive_index;
 mod archive_inputs;
+mod archive_searches;
 mod archives;
 mod asked_libraries;
 mod entry_chains;
 mod entry_rows;
 mod examples;
+mod first_inputs;
 mod index_parts;
 mod key_chains;
 mod key_lines;
@@ -26,6 +28,7 @@ mod link_faults;
 mod link_files;
 mod link_laws;
 mod link_memory;
+mod link_steps;
 mod linker_names;
 mod list_lines;
 mod member_names;

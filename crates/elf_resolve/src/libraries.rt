@@ -1,4 +1,5 @@
 //! The shared libraries of a link.
+ghost use Rattle.std.specs.Prelude.{◌≡◌, [], IfOk, length};
 
 use crate::link_faults::{LinkFault, refused};
 use crate::string_buffer::{HeldText, part_of};
@@ -45,7 +46,9 @@ impl LibraryList {
     ///
     /// # Errors
     /// Out of memory.
-    pub(crate) fn new(alloc: Global, rows: u32) -> Result<LibraryList, AllocError> {
+    pub(crate) fn new(alloc: Global, rows: u32) -> Result<LibraryList, AllocError>
+        ensures { IfOk result (λ list. list.libraries.items ≡ []) }
+    {
         let most = rows as usize;
         let room = most.saturating_mul(64);
         Ok(LibraryList {
@@ -58,7 +61,9 @@ impl LibraryList {
     }
 
     /// Returns how many libraries there are.
-    pub(crate) fn len(&self) -> usize {
+    pub(crate) fn len(&self) -> usize
+        ensures { result ≡ length self.now.libraries.items }
+    {
         self.libraries.len()
     }
 

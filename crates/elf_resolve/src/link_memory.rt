@@ -1,4 +1,7 @@
 //! The memory of a link, in parts.
+ghost use Rattle.std.specs.Prelude.{◌≡◌, [], IfOk, true, ℕ};
+ghost use Rattle.elf_model.specs.LinkKeys.{no_keys};
+ghost use Rattle.elf_resolve.specs.LinkPlaces.{is_new_input};
 
 use crate::archives::ArchiveTables;
 use crate::key_chains::KeyChains;
@@ -58,7 +61,9 @@ pub(crate) fn new_link<'a>(
     hasher: RandomState,
     caps: &LinkCaps,
     memory: &'a Bump,
-) -> Result<Link<'a>, AllocError> {
+) -> Result<Link<'a>, AllocError>
+    ensures { IfOk result (λ link. (link.keys.keys ≡ no_keys) × (link.rows.rows ≡ [])) }
+{
     let bytes = caps.key_bytes;
     let keys = KeyTable::new(alloc, hasher, caps.keys, caps.index, memory, bytes)?;
     let rows = RowTable::new(alloc, caps.rows)?;
@@ -70,7 +75,10 @@ impl KeyLists {
     ///
     /// # Errors
     /// Out of memory.
-    pub(crate) fn new(alloc: Global, caps: &LinkCaps) -> Result<KeyLists, AllocError> {
+    pub(crate) fn new(alloc: Global, caps: &LinkCaps) -> Result<KeyLists, AllocError>
+        ensures { IfOk result (λ lists. (lists.tables.archives.items ≡ [])
+            × (lists.tables.members.items ≡ [])) }
+    {
         let entries = caps.index as usize;
         Ok(KeyLists {
             tables: ArchiveTables::new(alloc, caps.index, caps.rows)?,
@@ -86,7 +94,10 @@ impl RowMarks {
     ///
     /// # Errors
     /// Out of memory.
-    pub(crate) fn new(alloc: Global, caps: &LinkCaps) -> Result<RowMarks, AllocError> {
+    pub(crate) fn new(alloc: Global, caps: &LinkCaps) -> Result<RowMarks, AllocError>
+        ensures { IfOk result (λ marks. (marks.taken.items ≡ [])
+            × (marks.libraries.libraries.items ≡ [])) }
+    {
         Ok(RowMarks {
             taken: Vec::with_capacity(alloc, caps.index as usize)?,
             problems: vec![in alloc; false; caps.rows as usize]?,
@@ -101,7 +112,10 @@ impl StepStates {
     ///
     /// # Errors
     /// Out of memory.
-    pub(crate) fn new(alloc: Global, steps: usize) -> Result<StepStates, AllocError> {
+    pub(crate) fn new(alloc: Global, steps: usize) -> Result<StepStates, AllocError>
+        ensures { IfOk result (λ steps. (steps.groups.items ≡ [])
+            × ((input : ℕ) → is_new_input steps.states.items input ≡ true)) }
+    {
         Ok(StepStates {
             states: vec![in alloc; InputState::New; steps]?,
             groups: Vec::with_capacity(alloc, steps)?,

@@ -1,5 +1,5 @@
 //! The members of an archive, as objects of a link.
-ghost use Rattle.std.specs.Prelude.{◌≡◌, ◌↔◌, ◌+◌, ◌-◌, ◌≤◌, ◌<◌, ◌||◌, ◌∷◌, true, false, IfOk, IsSome, IsTrue, OnErr, OnOk, List, ℕ, Option, None, Ok, Some, bytes_eq, get_or, length, map};
+ghost use Rattle.std.specs.Prelude.{◌≡◌, ◌↔◌, ◌+◌, ◌-◌, ◌≤◌, ◌<◌, ◌||◌, ◌∷◌, [], true, false, IfOk, IsSome, IsTrue, OnErr, OnOk, List, ℕ, Option, None, Ok, Some, bytes_eq, get_or, length, map};
 ghost use Rattle.elf_archive.specs.Members.{extent_of_names};
 ghost use Rattle.elf_model.specs.Archive.{is_name_table};
 ghost use Rattle.elf_model.specs.Bytes.{slice};
@@ -116,6 +116,8 @@ impl<S: Source> MembersOfArchive<'_, S> {
         ensures headers { self.new.room.now.headers ≡ self.old.room.now.headers }
         ensures archive { self.new.archive ≡ self.old.archive }
         ensures members { self.new.members.now ≡ self.old.members.now }
+        ensures same_src { self.new.src.ghost_name ≡ self.old.src.ghost_name }
+        ensures same_room { self.new.room.ghost_name ≡ self.old.room.ghost_name }
         ensures takes { (files : LinkFiles) → files.headers ≡ self.old.room.now.headers →
             (known : KnownMembers self.old.src.now.seen.whole self.old.members.now
             (extent_of_names self.old.archive.names)) →
@@ -144,6 +146,8 @@ impl<S: Source> MembersOfArchive<'_, S> {
         ensures headers { self.new.room.now.headers ≡ self.old.room.now.headers }
         ensures archive { self.new.archive ≡ self.old.archive }
         ensures members { self.new.members.now ≡ self.old.members.now }
+        ensures same_src { self.new.src.ghost_name ≡ self.old.src.ghost_name }
+        ensures same_room { self.new.room.ghost_name ≡ self.old.room.ghost_name }
         ensures defines { (known : KnownMembers self.old.src.now.seen.whole self.old.members.now
             (extent_of_names self.old.archive.names)) → IfOk result (λ is_defined. is_defined
             ≡ (members_by_file (Some known.file) self.old.room.now.headers).defines entry.member
@@ -191,6 +195,8 @@ impl<S: Source> ArchiveObjects for MembersOfArchive<'_, S> {
 
     ghost known = { λ s. KnownMembers s.src.now.seen.whole s.members.now
         (extent_of_names s.archive.names) };
+
+    ghost kept = { λ s. s.src.ghost_name ∷ s.room.ghost_name ∷ s.room.now.headers ∷ [] };
 
     fn take<'a>(&mut self, member: u32, row: u32, keys: &mut KeyTable<'a>) -> Result<(), LinkStop> {
         match self.take_member(member, row, keys) {

@@ -1,4 +1,5 @@
 //! The shared libraries of a link, and which of them are needed.
+ghost use Rattle.std.specs.Prelude.{◌≡◌, [], length};
 
 use crate::asked_libraries::{open_library, reopen_library};
 use crate::libraries::LinkLibrary;
@@ -76,7 +77,9 @@ impl Resolver<'_> {
         &mut self,
         files: &mut F,
         library: usize,
-    ) -> Result<(), LinkFault> {
+    ) -> Result<(), LinkFault>
+        ensures { F.file files.new ≡ F.file files.old }
+    {
         let Some(known) = self.libraries.get(library) else {
             return Ok(());
         };
@@ -99,7 +102,9 @@ impl Resolver<'_> {
         files: &mut F,
         library: usize,
         known: LinkLibrary,
-    ) -> Result<LibraryEnd, LinkFault> {
+    ) -> Result<LibraryEnd, LinkFault>
+        ensures { F.file files.new ≡ F.file files.old }
+    {
         let mut src = self.open(files, known.input)?;
         let keys = &mut self.link.keys;
         let libraries = &mut self.libraries;
@@ -118,11 +123,13 @@ impl Resolver<'_> {
     ///
     /// # Errors
     /// One cannot be opened; the first fault of one; there is no room.
-    pub(crate) fn offer_libraries<F: InputFiles>(
-        &mut self,
-        files: &mut F,
-    ) -> Result<(), LinkFault> {
+    pub(crate) fn offer_libraries<F: InputFiles>(&mut self, files: &mut F) -> Result<(), LinkFault>
+        ensures { self.old.libraries.libraries.items ≡ [] → self.new ≡ self.old }
+    {
         let count = self.libraries.len();
+        if count == 0 {
+            return Ok(());
+        }
         for library in (0..count).rev() {
             self.offer_library(files, library)?;
         }

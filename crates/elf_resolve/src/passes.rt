@@ -1,5 +1,5 @@
 //! The members of an archive that its index asks for.
-ghost use Rattle.std.specs.Prelude.{◌≡◌, IfOk, OnOk};
+ghost use Rattle.std.specs.Prelude.{◌≡◌, IfOk, List, OnOk, ℕ};
 ghost use Rattle.elf_model.specs.LinkPasses.{ArchiveMembers, archive_searched, asks_for as asks_by, entry_visited, index_name, index_passed, is_new as is_new_of, is_taken as is_taken_of, key_of_entry as key_of, member_row as row_of};
 ghost use Rattle.elf_resolve.specs.Passing.{Moved, TookObject, searched_archive, pass_of};
 
@@ -26,11 +26,13 @@ pub struct ArchiveInput {
 }
 
 /// The objects that are the members of an archive. What is promised of them is promised if they are
-/// `known`.
+/// `known`; what is `kept` stays the same.
 pub trait ArchiveObjects {
     ghost members: { Self → ArchiveMembers };
 
     ghost known: { Self → Type 0 };
+
+    ghost kept: { Self → List ℕ };
 
     /// Takes the groups and the symbols of a member, which has the row `row`.
     ///
@@ -40,6 +42,7 @@ pub trait ArchiveObjects {
         ensures takes { known self.old
             → OnOk result (TookObject ((members self.old).objects member) keys.old keys.new row) }
         ensures same { members self.new ≡ members self.old }
+        ensures kept { kept self.new ≡ kept self.old }
         ensures known { known self.old → known self.new };
 
     /// Returns whether the first symbol of an entry's name in the entry's member is a definition,
@@ -51,6 +54,7 @@ pub trait ArchiveObjects {
         ensures defines { known self.old → IfOk result (λ is_defined. is_defined
             ≡ (members self.old).defines entry.member (index_name keys.now.keys entry)) }
         ensures same { members self.new ≡ members self.old }
+        ensures kept { kept self.new ≡ kept self.old }
         ensures known { known self.old → known self.new };
 }
 
@@ -96,6 +100,7 @@ fn asks_for<'a, M: ArchiveObjects>(
     ensures asks { M.known members.old → IfOk result
         (λ asks. asks ≡ asks_by (M.members members.old) keys.now.keys entry) }
     ensures same { M.members members.new ≡ M.members members.old }
+    ensures kept { M.kept members.new ≡ M.kept members.old }
     ensures known { M.known members.old → M.known members.new }
 {
     let known = keys.entry(key_of_entry(keys, entry));
@@ -139,6 +144,7 @@ pub fn visit_entry<'a, M: ArchiveObjects>(
         ≡ entry_visited (searched_archive archive (M.members members.old)) (pass_of link.old taken.old)
         entry) }
     ensures same { M.members members.new ≡ M.members members.old }
+    ensures kept { M.kept members.new ≡ M.kept members.old }
     ensures known { M.known members.old → M.known members.new }
 {
     if is_taken(taken, entry.member) {
@@ -172,6 +178,7 @@ pub fn pass_index<'a, M: ArchiveObjects>(
         ≡ index_passed (searched_archive archive (M.members members.old)) (pass_of link.old taken.old)
         entries.now) }
     ensures same { M.members members.new ≡ M.members members.old }
+    ensures kept { M.kept members.new ≡ M.kept members.old }
     ensures known { M.known members.old → M.known members.new }
 {
     for i in 0..entries.len() {
@@ -196,6 +203,7 @@ pub fn search_archive<'a, M: ArchiveObjects>(
         ≡ archive_searched (searched_archive archive (M.members members.old)) entries.now
         (pass_of link.old taken.old)) }
     ensures same { M.members members.new ≡ M.members members.old }
+    ensures kept { M.kept members.new ≡ M.kept members.old }
     ensures known { M.known members.old → M.known members.new }
 {
     loop {

@@ -1,20 +1,28 @@
 //! The inputs of a link in their order.
+ghost use Rattle.std.specs.Prelude.{◌≡◌, ◌≢◌, ◌+◌, ◌<◌, ◌∷◌, [], false, ℕ, List, length, map, IfOk, OnOk, None, Ok, Some};
+ghost use Rattle.std.specs.List.{slice_get};
+ghost use Rattle.std.proofs.Math.ListN.{set};
+ghost use Rattle.elf_model.specs.LinkArchives.{LinkFiles, files_as_inputs};
+ghost use Rattle.elf_model.specs.LinkInputs.{LinkInputs, Linking, file_row, input_taken, linked, with_arguments};
+ghost use Rattle.elf_source.specs.Prelude.{IsWholeRange};
+ghost use Rattle.elf_resolve.specs.LinkMembers.{file_of_range};
+ghost use Rattle.elf_resolve.specs.LinkPlaces.{IsLinkAt, input_made, is_new_input};
+ghost use Rattle.elf_resolve.specs.Plans.{IsStaticPlan, planned_files, plan_steps};
+ghost use Rattle.elf_resolve.specs.Resolved.{linking_of};
+ghost use Rattle.elf_resolve.specs.ResolvedInputs.{AddedRowOf, AskedNames, IsAtStep, IsFresh, IsLink, IsPlanned, OpenedGroup, TookAll, TookInput};
 
 use crate::archives::ArchiveTables;
 use crate::key_chains::KeyChains;
 use crate::libraries::LibraryList;
 use crate::link_faults::{LinkFault, full, refused};
-use crate::link_files::{InputFiles, InputKind, LinkInput, LinkPlan, LinkStep, OpenFault};
+use crate::link_files::{InputFiles, LinkPlan};
 use crate::link_memory::{KeyLists, RowMarks, StepStates, new_link};
 use crate::linker_names::OutputKind;
-use crate::needed_libraries::NewLibrary;
-use crate::object::take_object;
 use crate::passes::Link;
 use crate::room::{LinkCaps, LinkRoom};
 use crate::spare_keys::SpareKeys;
 use bumpalo::Bump;
 use elf_model::{LinkCause, LinkRefusal, LinkRow, LinkRowKind, SymbolRole, SymbolUse};
-use elf_source::{Counted, RangeSource, Source};
 use std::alloc::{AllocError, Global};
 use std::hash::RandomState;
 
@@ -73,9 +81,9 @@ pub struct Resolver<'a> {
     pub(crate) spare: SpareKeys,
     pub(crate) libraries: LibraryList,
     pub(crate) kinds: Vec<Option<LinkRowKind>>,
-    states: Vec<InputState>,
-    groups: Vec<OpenGroup>,
-    left: Option<u64>,
+    pub(crate) states: Vec<InputState>,
+    pub(crate) groups: Vec<OpenGroup>,
+    pub(crate) left: Option<u64>,
     pub(crate) row: Option<u32>,
 }
 
@@ -91,7 +99,9 @@ impl<'a> Resolver<'a> {
         output: OutputKind,
         steps: usize,
         memory: &'a Bump,
-    ) -> Result<Resolver<'a>, AllocError> {
+    ) -> Result<Resolver<'a>, AllocError>
+        ensures { IfOk result IsFresh }
+    {
         let link = new_link(alloc, hasher, caps, memory)?;
         let KeyLists {
             tables,
@@ -131,7 +141,10 @@ impl<'a> Resolver<'a> {
     ///
     /// # Errors
     /// There is no room for it.
-    pub fn ask(&mut self, name: &[u8]) -> Result<(), LinkFault> {
+    #[tactic(auto, unfolding(elf_model::specs::LinkKeys::symbol_taken))]
+    pub fn ask(&mut self, name: &[u8]) -> Result<(), LinkFault>
+        ensures { OnOk result (AskedNames self.old self.new (name.now ∷ [])) }
+    {
         match self.link.keys.use_name(name, ASKED, None) {
             Ok(()) => Ok(()),
             Err(fault) => Err(full(0, fault)),
@@ -147,14 +160,36 @@ impl<'a> Resolver<'a> {
         files: &mut F,
         asked: &[&str],
         plan: &LinkPlan,
-    ) -> Result<(), LinkFault> {
-        let taken = match self.take_all(files, asked, plan) {
-            Ok(()) => self.offer_libraries(files),
-            Err(fault) => Err(fault),
-        };
+    ) -> Result<(), LinkFault>
+        ensures { (inputs : LinkInputs) → IsFresh self.old →
+            IsStaticPlan (F.file files.old) plan.now → plan_steps inputs ≡ plan.now.steps.items →
+            self.new.end ≡ None → OnOk result (linking_of self.new ≡ linked
+            (files_as_inputs (planned_files (F.file files.old) plan.now
+            self.old.room.headers)) (map (λ name. name.now) asked.now) inputs) }
+    {
+        let taken = self.take_all(files, asked, plan);
+        self.list_by_keys();
+        self.end_with(taken)
+    }
+
+    /// Lists by their keys what the lines of keys name, and marks the rows that those of faults
+    /// name.
+    fn list_by_keys(&mut self)
+        ensures { linking_of self.new ≡ linking_of self.old }
+    {
         self.chain_entries();
         self.chain_further();
         self.mark_problems();
+    }
+
+    /// Keeps the refusal at which a link ended, if it ended so.
+    ///
+    /// # Errors
+    /// A file cannot be opened or read.
+    fn end_with(&mut self, taken: Result<(), LinkFault>) -> Result<(), LinkFault>
+        ensures same { linking_of self.new ≡ linking_of self.old }
+        ensures ends { self.new.end ≡ None → OnOk result (taken ≡ Ok tt) }
+    {
         match taken {
             Ok(()) => Ok(()),
             Err(LinkFault::Refused(refusal)) => {
@@ -166,7 +201,7 @@ impl<'a> Resolver<'a> {
         }
     }
 
-    /// Enters the symbols that arguments ask for, and takes all inputs.
+    /// Takes all inputs, and lists the libraries that are not needed.
     ///
     /// # Errors
     /// The first fault.
@@ -175,184 +210,57 @@ impl<'a> Resolver<'a> {
         files: &mut F,
         asked: &[&str],
         plan: &LinkPlan,
-    ) -> Result<(), LinkFault> {
+    ) -> Result<(), LinkFault>
+        ensures { (inputs : LinkInputs) → IsFresh self.old →
+            IsStaticPlan (F.file files.old) plan.now → plan_steps inputs ≡ plan.now.steps.items →
+            OnOk result (linking_of self.new ≡ linked
+            (files_as_inputs (planned_files (F.file files.old) plan.now
+            self.old.room.headers)) (map (λ name. name.now) asked.now) inputs) }
+    {
+        self.take_inputs(files, asked, plan)?;
+        self.offer_libraries(files)
+    }
+
+    /// Enters the symbols that arguments ask for, and takes all inputs.
+    ///
+    /// # Errors
+    /// The first fault.
+    fn take_inputs<F: InputFiles>(
+        &mut self,
+        files: &mut F,
+        asked: &[&str],
+        plan: &LinkPlan,
+    ) -> Result<(), LinkFault>
+        ensures { (inputs : LinkInputs) → IsFresh self.old →
+            IsStaticPlan (F.file files.old) plan.now → plan_steps inputs ≡ plan.now.steps.items →
+            let all = planned_files (F.file files.old) plan.now self.old.room.headers in
+            OnOk result (TookAll all self.new
+            (linked (files_as_inputs all) (map (λ name. name.now) asked.now) inputs)) }
+    {
         self.ask_all(asked)?;
-        let mut place = 0;
-        for _ in 0..u64::MAX {
-            let Some(step) = plan.steps.get(place) else {
-                break;
-            };
-            place = self.take_step(files, plan, *step, place)?;
-        }
-        Ok(())
+        self.take_steps(files, plan)
     }
 
     /// Enters the symbols that arguments ask for.
     ///
     /// # Errors
     /// There is no room for one.
-    fn ask_all(&mut self, asked: &[&str]) -> Result<(), LinkFault> {
+    fn ask_all(&mut self, asked: &[&str]) -> Result<(), LinkFault>
+        ensures { OnOk result (AskedNames self.old self.new (map (λ name. name.now) asked.now)) }
+    {
         for name in asked {
             self.ask(name.as_bytes())?;
         }
         Ok(())
     }
 
-    /// Makes a step, and returns the index of the next.
-    ///
-    /// # Errors
-    /// The first fault of an input.
-    fn take_step<F: InputFiles>(
-        &mut self,
-        files: &mut F,
-        plan: &LinkPlan,
-        step: LinkStep,
-        place: usize,
-    ) -> Result<usize, LinkFault> {
-        let next = place.saturating_add(1);
-        match step {
-            LinkStep::Open => {
-                let asked = self.link.keys.asked();
-                let _ = self.groups.push(OpenGroup { first: next, asked });
-                Ok(next)
-            }
-            LinkStep::Close => Ok(self.close_group(next)),
-            LinkStep::Input(input) => {
-                self.row = None;
-                self.visit(files, plan, input)?;
-                Ok(next)
-            }
-        }
-    }
-
-    /// Ends a round of the group that began last. Returns its first step if a key was asked for in
-    /// it, and otherwise the next step.
-    fn close_group(&mut self, next: usize) -> usize {
-        let Some(group) = self.groups.pop() else {
-            return next;
-        };
-        let asked = self.link.keys.asked();
-        if asked == group.asked {
-            return next;
-        }
-        let _ = self.groups.push(OpenGroup {
-            first: group.first,
-            asked,
-        });
-        group.first
-    }
-
-    /// Takes an input, or what is left of it in a further round.
-    ///
-    /// # Errors
-    /// The first fault of the input.
-    fn visit<F: InputFiles>(
-        &mut self,
-        files: &mut F,
-        plan: &LinkPlan,
-        input: u32,
-    ) -> Result<(), LinkFault> {
-        let Some(known) = plan.inputs.get(input as usize) else {
-            return Ok(());
-        };
-        match self.states.get(input as usize).copied() {
-            Some(InputState::New) => self.take_input(files, *known, input),
-            Some(InputState::Archive(archive)) => self.search_again(files, archive),
-            Some(InputState::Library(library)) => self.ask_again(files, library),
-            Some(InputState::Done) | None => Ok(()),
-        }
-    }
-
     /// Sets what is done at an input once more.
-    pub(crate) fn set_state(&mut self, input: u32, state: InputState) {
+    pub(crate) fn set_state(&mut self, input: u32, state: InputState)
+        ensures same { self.new ≡ record self.old { states = self.new.states } }
+        ensures sets { self.new.states.items ≡ set self.old.states.items input state }
+    {
         if let Some(place) = self.states.get_mut(input as usize) {
             *place = state;
-        }
-    }
-
-    /// Takes an input for the first time.
-    ///
-    /// # Errors
-    /// The first fault of the input.
-    fn take_input<F: InputFiles>(
-        &mut self,
-        files: &mut F,
-        input: LinkInput,
-        index: u32,
-    ) -> Result<(), LinkFault> {
-        self.set_state(index, InputState::Done);
-        match input.kind {
-            InputKind::Missing => {
-                self.add_row(LinkRowKind::Missing, index)?;
-                Ok(())
-            }
-            InputKind::BadScript => {
-                self.add_row(LinkRowKind::Refused, index)?;
-                refused(0, LinkCause::ScriptFault)
-            }
-            InputKind::Object | InputKind::Shared | InputKind::Archive => {
-                let mut src = self.open(files, index)?;
-                let taken = self.take_file(files, &mut src, input, index);
-                self.close(&src);
-                taken
-            }
-        }
-    }
-
-    /// Opens the file of an input, of which no more is read than is left of the budget.
-    ///
-    /// # Errors
-    /// It cannot be opened.
-    pub(crate) fn open<F: InputFiles>(
-        &mut self,
-        files: &mut F,
-        input: u32,
-    ) -> Result<Counted<RangeSource<F::InputSource>>, LinkFault> {
-        match files.open(input) {
-            Ok(source) => {
-                let mut src = Counted::new(RangeSource::new(source));
-                src.limit(self.left);
-                Ok(src)
-            }
-            Err(OpenFault::Open) => Err(LinkFault::Open),
-            Err(OpenFault::Read) => Err(LinkFault::Read),
-        }
-    }
-
-    /// Subtracts from the budget what was requested of a file.
-    pub(crate) fn close<S: Source>(&mut self, src: &Counted<S>) {
-        self.left = src.left();
-    }
-
-    /// Takes the file of an input.
-    ///
-    /// # Errors
-    /// The first fault of the file.
-    fn take_file<F: InputFiles>(
-        &mut self,
-        files: &F,
-        src: &mut Counted<RangeSource<F::InputSource>>,
-        input: LinkInput,
-        index: u32,
-    ) -> Result<(), LinkFault> {
-        match input.kind {
-            InputKind::Archive => self.take_archive(src, input.is_whole, index),
-            InputKind::Shared => {
-                let row = self.add_row(LinkRowKind::Shared, index)?;
-                self.take_library(
-                    src,
-                    NewLibrary {
-                        input: index,
-                        row,
-                        path: files.path(index),
-                        as_needed: input.as_needed,
-                    },
-                )
-            }
-            _ => {
-                let row = self.add_row(LinkRowKind::Object, index)?;
-                take_object(src, &mut self.room, &mut self.link.keys, row)
-            }
         }
     }
 
@@ -360,7 +268,9 @@ impl<'a> Resolver<'a> {
     ///
     /// # Errors
     /// `TooManyRows` at 0 if there is no room for it.
-    pub(crate) fn add_row(&mut self, kind: LinkRowKind, input: u32) -> Result<u32, LinkFault> {
+    pub(crate) fn add_row(&mut self, kind: LinkRowKind, input: u32) -> Result<u32, LinkFault>
+        ensures { IfOk result (AddedRowOf self.old self.new (file_row kind input)) }
+    {
         let row = LinkRow {
             kind,
             input,

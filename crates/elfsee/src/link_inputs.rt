@@ -1,5 +1,6 @@
 //! The inputs of a link, and where they are: the files that the arguments of a linker name, and
 //! those of the scripts among them.
+ghost use Rattle.std.specs.Prelude.{None};
 
 use crate::input_kinds::{FoundFile, look_into, open_regular};
 use crate::link_texts::{InputTexts, TextPlace};
@@ -351,6 +352,10 @@ where
     R::File: FileExt,
 {
     type InputSource = StreamSource<FileReader<R::File>>;
+
+    ghost file = { λ s input. None };
+
+    ghost text = { λ s input. None };
 
     fn open(&mut self, input: u32) -> Result<Self::InputSource, OpenFault> {
         match str::from_utf8(self.path(input)) {

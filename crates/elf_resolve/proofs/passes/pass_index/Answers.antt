@@ -1,3 +1,4 @@
+use Rattle.std.proofs.Common.{◌∙◌}
 use Rattle.elf_resolve.specs.Passing.{pass_of}
 use Rattle.elf_resolve.proofs.PassingLaws.{moved_then, one_more}
 use Rattle.elf_resolve.proofs.passes.pass_index.Goals as goal
@@ -7,4 +8,5 @@ loop-i-preserved g c = (
   moved_then _ _ (pass_of c.visit_entry.new.link c.visit_entry.new.taken) c.loop-i.invariant.0 c.in_ok-visit_entry.ensures.moves,
   one_more c.args.archive _ _ _ _ _ (g.M.ArchiveObjects.known c.visit_entry.new.members) _ _ (pass_of c.visit_entry.new.link c.visit_entry.new.taken) c.args.entries.now c.loop-i.i _ c.loop-i-test.true c.loop-i.invariant.1
       c.visit_entry.ensures.same c.visit_entry.ensures.known c.in_ok-visit_entry.ensures.visits,
+  c.visit_entry.ensures.kept ∙ c.loop-i.invariant.2,
 )

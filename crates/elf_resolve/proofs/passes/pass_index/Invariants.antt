@@ -1,4 +1,4 @@
-use Rattle.std.proofs.Common.{take}
+use Rattle.std.proofs.Common.{◌≡◌, take}
 use Rattle.elf_model.specs.LinkPasses.{index_passed}
 use Rattle.elf_resolve.specs.Passing.{Moved, PassedTo, searched_archive, pass_of}
 use Rattle.elf_resolve.proofs.passes.pass_index.Given as goal
@@ -8,3 +8,4 @@ invariant-loop-i g l =
     Moved (pass_of l.initial.link l.initial.taken) (pass_of l.link l.taken)
     × PassedTo (g.M.ArchiveObjects.members l.initial.members) (g.M.ArchiveObjects.members l.members) (g.M.ArchiveObjects.known l.initial.members) (g.M.ArchiveObjects.known l.members)
     (index_passed (searched_archive l.archive (g.M.ArchiveObjects.members l.initial.members)) (pass_of l.initial.link l.initial.taken) (take l.i l.entries)) (pass_of l.link l.taken)
+    × (g.M.ArchiveObjects.kept l.members ≡ g.M.ArchiveObjects.kept l.initial.members)

@@ -6,13 +6,15 @@ use Rattle.elf_resolve.proofs.passes.search_archive.Goals as goal
 pub returns-then-asked-before-clause-searches : goal.returns-then-asked-before-clause-searches
 returns-then-asked-before-clause-searches g c known =
     last_pass c.args.archive _ _ (g.M.ArchiveObjects.members c.pass_index.new.members) _ _ (g.M.ArchiveObjects.known c.pass_index.new.members) _ _ (pass_of c.pass_index.new.link c.pass_index.new.taken) c.args.entries.now
-    c.loop.invariant c.in_ok-pass_index.ensures.passes (sym c.asked.ensures ∙ c.if-asked-before.true ∙ c.asked-before.ensures) known
+    c.loop.invariant.1 c.in_ok-pass_index.ensures.passes (sym c.asked.ensures ∙ c.if-asked-before.true ∙ c.asked-before.ensures) known
 
 pub loop-smaller : goal.loop-smaller
 loop-smaller g c =
     fewer_moved _ (pass_of c.pass_index.new.link c.pass_index.new.taken) c.in_ok-pass_index.ensures.moves (λ same. c.if-asked-before.false (c.asked.ensures ∙ same ∙ sym c.asked-before.ensures))
 
 pub loop-preserved : goal.loop-preserved
-loop-preserved g c =
-    another c.args.archive _ _ _ _ _ (g.M.ArchiveObjects.known c.pass_index.new.members) _ _ (pass_of c.pass_index.new.link c.pass_index.new.taken) c.args.entries.now c.loop.invariant c.pass_index.ensures.same
-    c.pass_index.ensures.known c.in_ok-pass_index.ensures.passes (λ same. c.if-asked-before.false (c.asked.ensures ∙ same ∙ sym c.asked-before.ensures))
+loop-preserved g c = (
+  c.pass_index.ensures.kept ∙ c.loop.invariant.0,
+  another c.args.archive _ _ _ _ _ (g.M.ArchiveObjects.known c.pass_index.new.members) _ _ (pass_of c.pass_index.new.link c.pass_index.new.taken) c.args.entries.now c.loop.invariant.1 c.pass_index.ensures.same
+      c.pass_index.ensures.known c.in_ok-pass_index.ensures.passes (λ same. c.if-asked-before.false (c.asked.ensures ∙ same ∙ sym c.asked-before.ensures)),
+)

@@ -1,3 +1,4 @@
+use Rattle.std.proofs.Common.{◌≡◌}
 use Rattle.elf_model.specs.LinkPasses.{archive_searched, untaken}
 use Rattle.elf_resolve.specs.Passing.{PassedTo, searched_archive, pass_of}
 use Rattle.elf_resolve.proofs.passes.search_archive.Given as goal
@@ -5,7 +6,8 @@ use Rattle.elf_resolve.proofs.passes.search_archive.Given as goal
 -- the passes that are left make the same of what is held as all passes make of what was held first
 abbrev pub invariant-loop : goal.invariant-loop
 invariant-loop g l =
-    PassedTo (g.M.ArchiveObjects.members l.initial.members) (g.M.ArchiveObjects.members l.members) (g.M.ArchiveObjects.known l.initial.members) (g.M.ArchiveObjects.known l.members)
+    (g.M.ArchiveObjects.kept l.members ≡ g.M.ArchiveObjects.kept l.initial.members)
+    × PassedTo (g.M.ArchiveObjects.members l.initial.members) (g.M.ArchiveObjects.members l.members) (g.M.ArchiveObjects.known l.initial.members) (g.M.ArchiveObjects.known l.members)
     (archive_searched (searched_archive l.archive (g.M.ArchiveObjects.members l.initial.members)) l.entries (pass_of l.initial.link l.initial.taken))
     (archive_searched (searched_archive l.archive (g.M.ArchiveObjects.members l.initial.members)) l.entries (pass_of l.link l.taken))
 

@@ -1,0 +1,145 @@
+//! The steps of a link: its inputs in order, and groups of them.
+ghost use Rattle.std.specs.Prelude.{◌≡◌, ◌≢◌, ◌+◌, ◌<◌, ◌∷◌, [], false, ℕ, List, length, map, IfOk, OnOk, None, Ok, Some};
+ghost use Rattle.std.specs.List.{slice_get};
+ghost use Rattle.std.proofs.Math.ListN.{set};
+ghost use Rattle.elf_model.specs.LinkArchives.{LinkFiles, files_as_inputs};
+ghost use Rattle.elf_model.specs.LinkInputs.{LinkInputs, Linking, file_row, input_taken, linked, with_arguments};
+ghost use Rattle.elf_source.specs.Prelude.{IsWholeRange};
+ghost use Rattle.elf_resolve.specs.LinkMembers.{file_of_range};
+ghost use Rattle.elf_resolve.specs.LinkPlaces.{IsLinkAt, input_made, is_new_input};
+ghost use Rattle.elf_resolve.specs.Plans.{IsStaticPlan, planned_files, plan_steps};
+ghost use Rattle.elf_resolve.specs.Resolved.{linking_of};
+ghost use Rattle.elf_resolve.specs.ResolvedInputs.{AddedRowOf, AskedNames, IsAtStep, IsFresh, IsLink, IsPlanned, OpenedGroup, TookAll, TookInput};
+
+use crate::archive_searches::element_at;
+use crate::link_faults::{LinkFault, refused};
+use crate::link_files::{InputFiles, LinkPlan, LinkStep};
+use crate::resolver::{InputState, OpenGroup, Resolver};
+use elf_model::LinkCause;
+
+impl Resolver<'_> {
+    /// Makes the steps of a plan, from the first on.
+    ///
+    /// # Errors
+    /// The first fault of an input.
+    pub(crate) fn take_steps<F: InputFiles>(
+        &mut self,
+        files: &mut F,
+        plan: &LinkPlan,
+    ) -> Result<(), LinkFault>
+        ensures { (headers : ℕ) (whole : Linking) → IsStaticPlan (F.file files.old) plan.now →
+            let all = planned_files (F.file files.old) plan.now headers in
+            IsAtStep all plan.now whole self.old 0 → OnOk result (TookAll all self.new whole) }
+    {
+        let count = plan.steps.len();
+        let mut place = 0;
+        'turns: for _ in 0..u64::MAX {
+            if place >= count {
+                return Ok(());
+            }
+            let after = self.take_step(files, plan, place, place + 1)?;
+            place = after;
+        }
+        Err(LinkFault::Read)
+    }
+
+    /// Makes the step of an index, and returns the index of the next one that is made, which is
+    /// `next` unless a group is taken once more.
+    ///
+    /// # Errors
+    /// The first fault of an input.
+    fn take_step<F: InputFiles>(
+        &mut self,
+        files: &mut F,
+        plan: &LinkPlan,
+        place: usize,
+        next: usize,
+    ) -> Result<usize, LinkFault>
+        ensures file { F.file files.new ≡ F.file files.old }
+        ensures steps { (headers : ℕ) (whole : Linking) →
+            IsStaticPlan (F.file files.old) plan.now → next ≡ place + 1 →
+            let all = planned_files (F.file files.old) plan.now headers in
+            IsAtStep all plan.now whole self.old place →
+            IfOk result (IsAtStep all plan.now whole self.new) }
+    {
+        let Some(step) = element_at(&plan.steps, place) else {
+            return Err(LinkFault::Read);
+        };
+        match step {
+            LinkStep::Open => {
+                self.open_group(next)?;
+                Ok(next)
+            }
+            LinkStep::Close => self.close_group(next),
+            LinkStep::Input(input) => {
+                self.row = None;
+                self.visit(files, plan, input)?;
+                Ok(next)
+            }
+        }
+    }
+
+    /// Begins a round of a group, whose first step has an index.
+    ///
+    /// # Errors
+    /// There is no room for it.
+    fn open_group(&mut self, first: usize) -> Result<(), LinkFault>
+        ensures { OnOk result (OpenedGroup self.old self.new first) }
+    {
+        let asked = self.link.keys.asked();
+        if self.groups.push(OpenGroup { first, asked }).is_err() {
+            return refused(0, LinkCause::TooManyRows);
+        }
+        Ok(())
+    }
+
+    /// Ends a round of the group that began last. Returns its first step if a key was asked for in
+    /// it, and otherwise the next step.
+    ///
+    /// # Errors
+    /// There is no room for another round.
+    fn close_group(&mut self, next: usize) -> Result<usize, LinkFault>
+        ensures { (files : LinkFiles) (plan : LinkPlan) (whole : Linking) (place : ℕ) →
+            next ≡ place + 1 → slice_get plan.steps.items place ≡ Some LinkStep.Close →
+            IsAtStep files plan whole self.old place →
+            IfOk result (IsAtStep files plan whole self.new) }
+    {
+        let Some(group) = self.groups.pop() else {
+            return Ok(next);
+        };
+        if self.link.keys.asked() == group.asked {
+            return Ok(next);
+        }
+        self.open_group(group.first)?;
+        Ok(group.first)
+    }
+
+    /// Takes an input, or what is left of it in a further round.
+    ///
+    /// # Errors
+    /// The first fault of the input.
+    fn visit<F: InputFiles>(
+        &mut self,
+        files: &mut F,
+        plan: &LinkPlan,
+        input: u32,
+    ) -> Result<(), LinkFault>
+        ensures file { F.file files.new ≡ F.file files.old }
+        ensures visits { (headers : ℕ) → IsStaticPlan (F.file files.old) plan.now →
+            let all = planned_files (F.file files.old) plan.now headers in
+            IsLink all self.old → OnOk result (TookInput all self.old self.new input
+            (input_made (is_new_input self.old.states.items input) (linking_of self.old) input
+            (files_as_inputs all input))) }
+    {
+        let Some(known) = element_at(&plan.inputs, input as usize) else {
+            return Err(LinkFault::Open);
+        };
+        match element_at(&self.states, input as usize) {
+            Some(InputState::New) => self.take_input(files, known, input),
+            Some(InputState::Archive(archive)) => self.search_again(files, archive),
+            Some(InputState::Library(library)) => self.ask_again(files, library),
+            Some(InputState::Done) => Ok(()),
+            None => Err(LinkFault::Open),
+        }
+    }
+}
