@@ -61,9 +61,9 @@ ReadsFound file bytes found (Ok (Some symbols)) = (found ≡ Some symbols.sectio
 ReadsFound file bytes found (Err fault) = IsLinkFault (as_any_refusal (first_refusal (table_checks_in file found))) fault
 
 -- THE NAMES of its sections, which may have no room
-abbrev pub ReadsSectionNames : (file bytes : List ℕ) → Result (Option HeldText) LinkFault → Type 0
-ReadsSectionNames file bytes (Ok names) = HoldsSectionNames file bytes names
-ReadsSectionNames file bytes (Err fault) = IsLinkFault None fault
+abbrev pub ReadsNamesOfSections : (file bytes : List ℕ) → Result (Option HeldText) LinkFault → Type 0
+ReadsNamesOfSections file bytes (Ok names) = HoldsSectionNames file bytes names
+ReadsNamesOfSections file bytes (Err fault) = IsLinkFault None fault
 
 -- THE TABLES of an object, whose checks pass, or the first of those that fails
 pub record ReadTables (file bytes : List ℕ) (tables : ObjectTables) : Type 0 where

@@ -5,7 +5,7 @@ ghost use Rattle.elf_model.specs.HeaderTables.{file_sections, first_typed};
 ghost use Rattle.elf_record.specs.Ehdr.{IsEhdr};
 ghost use Rattle.elf_record.specs.Sym.{IsSym};
 ghost use Rattle.elf_source.specs.Prelude.{KeepsSource};
-ghost use Rattle.elf_resolve.specs.ObjectParts.{ChecksKind, ReadsFound, ReadsLinkHeader, ReadsSectionNames, ReadsSymbols, ReadsTables};
+ghost use Rattle.elf_resolve.specs.ObjectParts.{ChecksKind, ReadsFound, ReadsLinkHeader, ReadsNamesOfSections, ReadsSymbols, ReadsTables};
 ghost use Rattle.elf_resolve.specs.Objects.{TakesLoaded};
 ghost use Rattle.elf_resolve.specs.StringBuffers.{KeptTexts, ReadsText};
 ghost use Rattle.elf_resolve.specs.Taken.{TakesObject};
@@ -208,7 +208,7 @@ fn read_section_names<S: Source>(
     ensures stays { KeptTexts strings.old strings.new }
     ensures reads { (file : List ℕ) → src.old.seen.file ≡ Some file →
         HoldsSectionHeaders file view.now.loaded view.now.store.now →
-        ReadsSectionNames file strings.new.bytes result }
+        ReadsNamesOfSections file strings.new.bytes result }
 {
     let Some(names) = view.names() else {
         return Ok(None);
