@@ -74,7 +74,8 @@ fn take_rows(
     row: u32,
 ) -> Result<(), LinkFault>
     ensures { (file : List ℕ) (table_at count : ℕ) (dropped : List ℕ) →
-        HoldsSymbols file strings.old.bytes table_at symbols → MarksDropped count sections.now dropped →
+        HoldsSymbols file strings.old.bytes table_at symbols →
+        MarksDropped count sections.now dropped →
         TakesObjectSymbols dropped
         (symbols_from file table_at symbols.first (symbols.count - symbols.first))
         keys.old keys.new row result }
@@ -309,7 +310,8 @@ fn absolute_value(symbol: &Sym) -> Option<u64>
 
 /// Returns what a reference is to its key.
 fn reference_role(symbol: &Sym) -> SymbolRole
-    ensures { (file : List ℕ) (at : ℕ) → IsSym file at symbol.now → result ≡ reference_role_at file at }
+    ensures { (file : List ℕ) (at : ℕ) → IsSym file at symbol.now →
+        result ≡ reference_role_at file at }
 {
     if symbol.binding() == STB_WEAK {
         return SymbolRole::WeakReference;
