@@ -22,7 +22,7 @@ use Rattle.elf_model.proofs.Slices.{slice-slice}
 use Rattle.elf_record.specs.Sym.{IsSym}
 use Rattle.elf_record.specs.declared.sym.Sym.{Sym}
 use Rattle.elf_resolve.specs.KeyTables.{KeyList}
-use Rattle.elf_resolve.specs.ObjectSymbols.{HoldsSome, NamesUse, TakesObjectSymbols, TookRows, default_by, is_symbol_reference, use_if}
+use Rattle.elf_resolve.specs.ObjectSymbols.{HoldsSome, NamesUse, TakesObjectSymbols, TookRows, default_by, is_reference_role, use_if}
 use Rattle.elf_resolve.specs.ObjectTables.{HoldsFirstSymbols, HoldsSymbols}
 use Rattle.elf_resolve.specs.StringBuffers.{FindsText, HoldsText, JoinedTexts, SplitName, TableTexts}
 use Rattle.elf_resolve.specs.Symbols.{TookSymbol, TookSymbols}
@@ -54,7 +54,7 @@ slice_own file at size = sym (take_min size (drop at file)) ∙ ap (λ n. take n
 pub names_split : (old new : TableTexts) (bytes is : List ℕ) (name base version joined : HeldText) (role : SymbolRole) → bytes ≡ is → HoldsText old.bytes name is → SplitName bytes name base version
     → take (length old.bytes) new.bytes ≡ old.bytes
     → ((first second : List ℕ) → HoldsText old.bytes base first → HoldsText old.bytes version second → JoinedTexts old new first second joined)
-    → HoldsText new.bytes joined (with_one_sign is (version_sign_in is)) × HoldsSome new.bytes (if is_symbol_reference role then None else Some base) (default_by role is)
+    → HoldsText new.bytes joined (with_one_sign is (version_sign_in is)) × HoldsSome new.bytes (if is_reference_role role then None else Some base) (default_by role is)
 names_split old new bytes is name base version joined role same held split kept joins =
     let split_is = subst (λ (b : List ℕ). SplitName b name base version) same split in
     let place : ℕ = split_is.place in
@@ -62,7 +62,7 @@ names_split old new bytes is name base version joined role same held split kept 
     let back = split_is.version_held old.bytes held in
     let one = holds_joined old new (take place is) (drop (place + 2) is) joined (joins _ _ front back) in (
       rw (split_is.sign, split_is.is_default, rest_of is place split_is.is_default) one,
-      rw split_is.sign (by_role (is_symbol_reference role) place split_is.is_default (holds_kept old.bytes new.bytes base (take place is) kept front)),
+      rw split_is.sign (by_role (is_reference_role role) place split_is.is_default (holds_kept old.bytes new.bytes base (take place is) kept front)),
     )
   where
     rest_of : (is : List ℕ) (place : ℕ) → is_default_at is place ≡ true → drop (place + 1) is ≡ 64 ∷ drop (place + 2) is
@@ -167,14 +167,14 @@ role_is file at true c w eu ec ew = rw (eu, ew) refl
 role_is file at false true w eu ec ew = rw (eu, ec) refl
 role_is file at false false w eu ec ew = rw (eu, ec, ew) refl
 
-plain_default : (u c w : Bool) (size : ℕ) (default : Option (List ℕ)) → (if is_symbol_reference (role_by u c w size) then None else default) ≡ (if not u then default else None)
+plain_default : (u c w : Bool) (size : ℕ) (default : Option (List ℕ)) → (if is_reference_role (role_by u c w size) then None else default) ≡ (if not u then default else None)
 plain_default true c true size default = refl
 plain_default true c false size default = refl
 plain_default false true w size default = refl
 plain_default false false true size default = refl
 plain_default false false false size default = refl
 
-dropped_default : (w : Bool) (size : ℕ) (default : Option (List ℕ)) → (if is_symbol_reference (reference_role (role_by false false w size)) then None else default) ≡ None
+dropped_default : (w : Bool) (size : ℕ) (default : Option (List ℕ)) → (if is_reference_role (reference_role (role_by false false w size)) then None else default) ≡ None
 dropped_default true size default = refl
 dropped_default false size default = refl
 
@@ -189,14 +189,14 @@ symbol_is file at name sections false other =
     let default = without_version name (version_sign_in name) in
     let role = role_is file at (st_shndx file at == SHN_UNDEF) (is_common file at) (is_weak_use file at) refl refl refl in
     let same : default_by (symbol_role file at) name ≡ (if not (st_shndx file at == SHN_UNDEF) then default else None) =
-    ap (λ r. if is_symbol_reference r then None else default) role ∙ plain_default (st_shndx file at == SHN_UNDEF) (is_common file at) (is_weak_use file at) (st_size file at) default in
+    ap (λ r. if is_reference_role r then None else default) role ∙ plain_default (st_shndx file at == SHN_UNDEF) (is_common file at) (is_weak_use file at) (st_size file at) default in
     rw other (ap (λ (d : Option (List ℕ)). record { name = with_one_sign name (version_sign_in name); default_name = d; symbol = symbol_use file at }) same)
 symbol_is file at name sections true is =
     let default = without_version name (version_sign_in name) in
     let known = defined_in file at (some_section sections (symbol_section file at) is) in
     let role = role_is file at false false (is_weak_use file at) known.0 known.1 refl in
     let same : default_by (reference_role (symbol_role file at)) name ≡ None =
-    ap (λ r. if is_symbol_reference (reference_role r) then None else default) role ∙ dropped_default (is_weak_use file at) (st_size file at) default in
+    ap (λ r. if is_reference_role (reference_role r) then None else default) role ∙ dropped_default (is_weak_use file at) (st_size file at) default in
     rw is (ap (λ (d : Option (List ℕ)). record { name = with_one_sign name (version_sign_in name); default_name = d; symbol = use_if true (symbol_use file at) }) same)
 
 pub took_one : (file bytes : List ℕ) (table_at at row : ℕ) (sections : List ℕ) (named : NamedUse) (old new : KeyList) (text : List ℕ) (h : NamesUse file bytes table_at at sections named)

@@ -25,8 +25,8 @@ FindsGlobal file at None = is_global file at ≡ false
 FindsGlobal file at (Some symbol) = (is_global file at ≡ true) × IsSym file at symbol
 
 -- what a reference of its binding is
-abbrev pub reference_of_symbol : (file : List ℕ) → (at : ℕ) → SymbolRole
-reference_of_symbol file at = if is_weak_use file at then WeakReference else Reference
+abbrev pub reference_role_at : (file : List ℕ) → (at : ℕ) → SymbolRole
+reference_role_at file at = if is_weak_use file at then WeakReference else Reference
 
 -- a use by a symbol whose section may be dropped
 abbrev pub dropped_use : SymbolUse → SymbolUse
@@ -56,13 +56,13 @@ FindsUse file bytes table_at at sections (Ok named) = MayNameUse file bytes tabl
 FindsUse file bytes table_at at sections (Err fault) = IsLinkFault (refusal_of (link_symbol_at file table_at at)) fault
 
 -- a reference does not define the name without a version
-abbrev pub is_symbol_reference : SymbolRole → Bool
-is_symbol_reference WeakReference = true
-is_symbol_reference Reference = true
-is_symbol_reference _ = false
+abbrev pub is_reference_role : SymbolRole → Bool
+is_reference_role WeakReference = true
+is_reference_role Reference = true
+is_reference_role _ = false
 
 abbrev pub default_by : SymbolRole → (name : List ℕ) → Option (List ℕ)
-default_by role name = if is_symbol_reference role then None else without_version name (version_sign_in name)
+default_by role name = if is_reference_role role then None else without_version name (version_sign_in name)
 
 -- A TEXT that may be there
 abbrev pub HoldsSome : (bytes : List ℕ) → Option HeldText → Option (List ℕ) → Type 0

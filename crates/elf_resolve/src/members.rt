@@ -384,8 +384,8 @@ fn is_name_of(text: &[u8], entry: IndexEntry, keys: &KeyTable<'_>) -> bool
     is_default_name(text, name, keys.name(entry.default_key))
 }
 
-/// Returns `true` if a text is a name of a default version with two signs before it: the name without
-/// the version, `@`, and what follows as many bytes of the name with it.
+/// Returns `true` if a text is a name of a default version with two signs before it: the name
+/// without the version, `@`, and what follows as many bytes of the name with it.
 fn is_default_name(text: &[u8], name: &[u8], default: &[u8]) -> bool
     ensures { result ≡ bytes_eq text.now (name_with_default name.now default.now) }
 {

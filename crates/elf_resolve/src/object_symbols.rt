@@ -7,7 +7,7 @@ ghost use Rattle.elf_model.specs.Numbers.{STT_FUNC, STT_GNU_IFUNC};
 ghost use Rattle.elf_model.specs.Records.{st_type};
 ghost use Rattle.elf_model.specs.Tables.{SYMBOL_SIZE, entry_at};
 ghost use Rattle.elf_record.specs.Sym.{IsSym};
-ghost use Rattle.elf_resolve.specs.ObjectSymbols.{FindsGlobal, FindsUse, HoldsSome, MayNameUse, NamesKeys, NamesUse, TakesObjectSymbols, is_symbol_reference, reference_of_symbol, use_if};
+ghost use Rattle.elf_resolve.specs.ObjectSymbols.{FindsGlobal, FindsUse, HoldsSome, MayNameUse, NamesKeys, NamesUse, TakesObjectSymbols, is_reference_role, reference_role_at, use_if};
 ghost use Rattle.elf_resolve.specs.ObjectTables.{HoldsSymbols, HoldsTables};
 ghost use Rattle.elf_resolve.specs.SectionMarks.{MarksDropped};
 ghost use Rattle.elf_resolve.specs.StringBuffers.{HoldsText, KeptTexts};
@@ -74,7 +74,8 @@ fn take_rows(
     row: u32,
 ) -> Result<(), LinkFault>
     ensures { (file : List ℕ) (table_at count : ℕ) (dropped : List ℕ) →
-        HoldsSymbols file strings.old.bytes table_at symbols → MarksDropped count sections.now dropped →
+        HoldsSymbols file strings.old.bytes table_at symbols →
+        MarksDropped count sections.now dropped →
         TakesObjectSymbols dropped
         (symbols_from file table_at symbols.first (symbols.count - symbols.first))
         keys.old keys.new row result }
@@ -309,7 +310,8 @@ fn absolute_value(symbol: &Sym) -> Option<u64>
 
 /// Returns what a reference is to its key.
 fn reference_role(symbol: &Sym) -> SymbolRole
-    ensures { (file : List ℕ) (at : ℕ) → IsSym file at symbol.now → result ≡ reference_of_symbol file at }
+    ensures { (file : List ℕ) (at : ℕ) → IsSym file at symbol.now →
+        result ≡ reference_role_at file at }
 {
     if symbol.binding() == STB_WEAK {
         return SymbolRole::WeakReference;
@@ -384,7 +386,7 @@ fn key_names(
 
 /// Returns a text, unless it is one of a reference.
 fn unless_reference(role: SymbolRole, text: HeldText) -> Option<HeldText>
-    ensures { result ≡ (if is_symbol_reference role then None else Some text) }
+    ensures { result ≡ (if is_reference_role role then None else Some text) }
 {
     match role {
         SymbolRole::Reference | SymbolRole::WeakReference => None,
