@@ -32,7 +32,7 @@ pub of_section : (output : LinkOutput) (keys : LinkKeys) (held name : List ℕ) 
     → bounds_noted keys section ≡ linker_defines output keys name
 of_section output keys held name is section same found fails bounded =
     sym (linker_defines-by output keys name ∙ ap (λ (b : Bool). b || bounds_noted keys (bounded_name name)) (sym (sym fails ∙ found ∙ ap (defines_name output) same))
-        ∙ ap (bounds_noted keys) (sym (ap bounded_name same) ∙ bounded))
+    ∙ ap (bounds_noted keys) (sym (ap bounded_name same) ∙ bounded))
 
 -- WHAT A LINK SAYS of a key has the word of the definition
 if_word : (b : Bool) (f g : FoundState) → found_word (if b then f else g) ≡ (if b then found_word f else found_word g)
@@ -70,7 +70,7 @@ word_found link key entry listed is =
     (has_further link.further key keys.further listed.further)
     ∙ ap (λ (b : Bool). key_state_word held.state (list_any (is_further_of key) keys.further) (is_some (reference_of held)) defines b)
     (or_none (is_some (first_number link.offers key)) (first_number link.spare.chains key) (listed.spare key)
-        ∙ has_offers link.tables.entries.items link.taken.items link.offers key link.tables.archives.items listed.offers listed.archives)
+    ∙ has_offers link.tables.entries.items link.taken.items link.offers key link.tables.archives.items listed.offers listed.archives)
 
 -- and the lines after it, and whether it is a fault
 pub after_found : (format : Format) (link : Linking) (name : List ℕ) (key : ℕ) (state : FoundState) → lines_after format link name key (found_word state) ≡ lines_found format link name key state

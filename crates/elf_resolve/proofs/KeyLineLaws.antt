@@ -12,14 +12,14 @@ use Rattle.elf_model.specs.declared.formats.Format.{Format}
 use Rattle.elf_model.specs.declared.link_states.FurtherDefinition.{FurtherDefinition}
 use Rattle.elf_model.specs.declared.link_states.IndexEntry.{IndexEntry}
 use Rattle.elf_resolve.specs.EntryRows.{AreConsecutive, row_with_entry}
-use Rattle.elf_resolve.specs.KeyChains.{Ascends, ChainTable, HasLists, IsListFrom, first_number}
-use Rattle.elf_resolve.specs.KeyLines.{had_front, line_of_number, line_of_place, member_of, row_of_further}
+use Rattle.elf_resolve.specs.KeyChains.{AscendWithin, ChainTable, HasLists, IsListFrom, first_number}
+use Rattle.elf_resolve.specs.KeyLines.{had_front, line_of_number, line_of_further, member_of_entry, row_of_further}
 use Rattle.elf_resolve.specs.KeyLists.{entry_numbers, further_places, with_place}
 use Rattle.elf_resolve.specs.Resolved.{elements_in, open_archive}
 use Rattle.elf_resolve.specs.declared.archives.OpenedArchive.{OpenedArchive}
 
 -- HOW LONG a list is
-pub length_within : (from most : ℕ) (numbers : List ℕ) → from ≤ most → Ascends from most numbers → length numbers + from ≤ most
+pub length_within : (from most : ℕ) (numbers : List ℕ) → from ≤ most → AscendWithin from most numbers → length numbers + from ≤ most
 length_within from most [] within ascends = omega (arith, within)
 length_within from most (n ∷ numbers) within ascends = omega (arith, ascends.0, length_within (n + 1) most numbers ascends.1 ascends.2)
 
@@ -54,7 +54,7 @@ entries_there key at (e ∷ entries) = by (e.key == key) (e.default_key == key) 
   where
     by : (is other : Bool) → is_there (entry_numbers key (at + 1) entries) ≡ list_any (has_key key) entries
         → is_there (if is then (at + at) ∷ entry_numbers key (at + 1) entries else (if other then (at + at + 1) ∷ entry_numbers key (at + 1) entries else entry_numbers key (at + 1) entries))
-          ≡ ((is || other) || list_any (has_key key) entries)
+        ≡ ((is || other) || list_any (has_key key) entries)
     by true other rest = refl
     by false true rest = refl
     by false false rest = rest
@@ -122,13 +122,13 @@ lines_of_further format name key at get (f ∷ further) gets =
 
     by : (is : Bool) → map (λ (place : ℕ). named_line (further_front format (row_of_further (get place))) (Whole name)) (further_places key (at + 1) further) ≡ further_lines format name (filter (is_further_of key) further)
         → map (λ (place : ℕ). named_line (further_front format (row_of_further (get place))) (Whole name)) (if is then at ∷ further_places key (at + 1) further else further_places key (at + 1) further)
-          ≡ further_lines format name (cond is (f ∷ filter (is_further_of key) further) (filter (is_further_of key) further))
+        ≡ further_lines format name (cond is (f ∷ filter (is_further_of key) further) (filter (is_further_of key) further))
     by true rest =
         ap (λ (o : Option FurtherDefinition). named_line (further_front format (row_of_further o)) (Whole name) ∷ map (λ (place : ℕ). named_line (further_front format (row_of_further (get place))) (Whole name)) (further_places key (at + 1) further)) here
         ∙ ap (λ (l : List (List ℕ)). named_line (further_front format f.row) (Whole name) ∷ l) rest
     by false rest = rest
 
-pub further_shown : (format : Format) (name : List ℕ) (key : ℕ) (further : List FurtherDefinition) → map (line_of_place format further name) (further_places key 0 further) ≡ further_lines format name (filter (is_further_of key) further)
+pub further_shown : (format : Format) (name : List ℕ) (key : ℕ) (further : List FurtherDefinition) → map (line_of_further format further name) (further_places key 0 further) ≡ further_lines format name (filter (is_further_of key) further)
 further_shown format name key further = lines_of_further format name key 0 (slice_get further) further (λ i. ap (slice_get further) (the_same i))
   where
     the_same : (n : ℕ) → 0 + n ≡ n
@@ -147,7 +147,7 @@ numbers_append key at (e ∷ xs) ys = by (e.key == key) (e.default_key == key) (
 
     by : (is other : Bool) → entry_numbers key (at + 1) (xs ++ ys) ≡ entry_numbers key (at + 1) xs ++ entry_numbers key (at + length (e ∷ xs)) ys
         → (if is then (at + at) ∷ entry_numbers key (at + 1) (xs ++ ys) else (if other then (at + at + 1) ∷ entry_numbers key (at + 1) (xs ++ ys) else entry_numbers key (at + 1) (xs ++ ys)))
-          ≡ ((if is then (at + at) ∷ entry_numbers key (at + 1) xs else (if other then (at + at + 1) ∷ entry_numbers key (at + 1) xs else entry_numbers key (at + 1) xs)) ++ entry_numbers key (at + length (e ∷ xs)) ys)
+        ≡ ((if is then (at + at) ∷ entry_numbers key (at + 1) xs else (if other then (at + at + 1) ∷ entry_numbers key (at + 1) xs else entry_numbers key (at + 1) xs)) ++ entry_numbers key (at + length (e ∷ xs)) ys)
     by true other rest = ap (λ l. (at + at) ∷ l) rest
     by false true rest = ap (λ l. (at + at + 1) ∷ l) rest
     by false false rest = rest
@@ -160,14 +160,14 @@ half_after n = omega arith
 
 module _ (format : Format) (name : List ℕ) (key : ℕ) (get : ℕ → Option IndexEntry) (row_at : ℕ → Option ℕ) where
   abbrev line_at : ℕ → List ℕ
-  line_at number = named_line (had_front format (row_at (number / 2)) (member_of (get (number / 2)))) (Whole name)
+  line_at number = named_line (had_front format (row_at (number / 2)) (member_of_entry (get (number / 2)))) (Whole name)
 
   offered : (row : ℕ) (e : IndexEntry) (place number : ℕ) → number / 2 ≡ place → row_at place ≡ Some row → get place ≡ Some e → line_at number ≡ named_line (offer_front format row (Some e.member)) (Whole name)
   unfolding had_front offer_front
   offered row e place number half row_is here =
-      ap (λ (n : ℕ). named_line (had_front format (row_at n) (member_of (get n))) (Whole name)) half
-      ∙ ap (λ (r : Option ℕ). named_line (had_front format r (member_of (get place))) (Whole name)) row_is
-      ∙ ap (λ (o : Option IndexEntry). named_line (had_front format (Some row) (member_of o)) (Whole name)) here
+      ap (λ (n : ℕ). named_line (had_front format (row_at n) (member_of_entry (get n))) (Whole name)) half
+      ∙ ap (λ (r : Option ℕ). named_line (had_front format r (member_of_entry (get place))) (Whole name)) row_is
+      ∙ ap (λ (o : Option IndexEntry). named_line (had_front format (Some row) (member_of_entry o)) (Whole name)) here
 
   part_shown : (row at : ℕ) (entries : List IndexEntry) → ((i : ℕ) → i < length entries → row_at (at + i) ≡ Some row) → ((i : ℕ) → i < length entries → get (at + i) ≡ slice_get entries i)
       → map line_at (entry_numbers key at entries) ≡ entry_lines format name row (filter (has_key key) entries)
@@ -190,7 +190,7 @@ module _ (format : Format) (name : List ℕ) (key : ℕ) (get : ℕ → Option I
 
       by : (is other : Bool) → map line_at (entry_numbers key (at + 1) entries) ≡ entry_lines format name row (filter (has_key key) entries)
           → map line_at (if is then (at + at) ∷ entry_numbers key (at + 1) entries else (if other then (at + at + 1) ∷ entry_numbers key (at + 1) entries else entry_numbers key (at + 1) entries))
-            ≡ entry_lines format name row (cond (is || other) (e ∷ filter (has_key key) entries) (filter (has_key key) entries))
+          ≡ entry_lines format name row (cond (is || other) (e ∷ filter (has_key key) entries) (filter (has_key key) entries))
       by true other rest = ap (λ (l : List ℕ). l ∷ map line_at (entry_numbers key (at + 1) entries)) (offered row e at (at + at) (half_of at) row_here here) ∙ ap (λ (l : List (List ℕ)). named_line (offer_front format row (Some e.member)) (Whole name) ∷ l) rest
       by false true rest = ap (λ (l : List ℕ). l ∷ map line_at (entry_numbers key (at + 1) entries)) (offered row e at (at + at + 1) (half_after at) row_here here) ∙ ap (λ (l : List (List ℕ)). named_line (offer_front format row (Some e.member)) (Whole name) ∷ l) rest
       by false false rest = rest
@@ -228,7 +228,7 @@ module _ (format : Format) (name : List ℕ) (key : ℕ) (get : ℕ → Option I
         ∙ map-append line_at (entry_numbers key from part) (entry_numbers key (from + length part) (drop to entries))
         ∙ ap (λ (l : List (List ℕ)). l ++ map line_at (entry_numbers key (from + length part) (drop to entries)))
         (part_shown archive.row from part (λ i less. rows (from + i) (omega arith) ∙ ap (λ (b : Bool). if b then Some archive.row else row_with_entry archives (from + i)) (lt-ltb (from + i) to (omega (arith, less, long))))
-            (λ i less. gets (from + i) ∙ slice_part from to i entries (omega (arith, less, long))))
+        (λ i less. gets (from + i) ∙ slice_part from to i entries (omega (arith, less, long))))
         ∙ ap (λ (n : ℕ). entry_lines format name archive.row (filter (has_key key) part) ++ map line_at (entry_numbers key n (drop to entries))) (ends long are.1)
         ∙ ap (λ (l : List (List ℕ)). entry_lines format name archive.row (filter (has_key key) part) ++ l)
         (shown_from to archives are.2 (λ place above. rows place (omega (arith, above, are.1)) ∙ ap (λ (b : Bool). if b then Some archive.row else row_with_entry archives place) (le-ltb place to above)))

@@ -43,9 +43,9 @@ module _ (problems : Bool) (format : Format) (names : FileNames) (keys : LinkKey
       let first = named_line (file_front format index row) (name_of_row names row.input row.member) in
       writes_as a c result (first ++ (named_line (reason_front format index reason.row) (Whole name) ++ [])) (concat (lines_of_row problems format names keys index row))
       (ap (λ (n : List ℕ). first ++ (named_line (reason_front format index reason.row) (Whole n) ++ [])) same
-          ∙ ap (λ (o : Option RowReason). first ++ concat (lines_of_reason format keys index o)) (sym is))
+      ∙ ap (λ (o : Option RowReason). first ++ concat (lines_of_reason format keys index o)) (sym is))
       (writes_then c first (named_line (reason_front format index reason.row) (Whole name) ++ []) result takes
-          (writes_as b c result _ _ (sym (append_nil (named_line (reason_front format index reason.row) (Whole name)))) (puts_text b c result _ puts)))
+      (writes_as b c result _ _ (sym (append_nil (named_line (reason_front format index reason.row) (Whole name)))) (puts_text b c result _ puts)))
 
   pub row_alone : (a b : OutState) → reason_shown problems row ≡ None → SinkTakes a b (named_line (file_front format index row) (name_of_row names row.input row.member))
       → SinkTakes a b (concat (lines_of_row problems format names keys index row))

@@ -21,9 +21,9 @@ had_fields row member = record { letter = codes "O"; fields = index_field (codes
 unfoldable pub had_front : Format → (row member : Option ℕ) → LinePrefix
 had_front format row member = front format (codes "name") (had_fields row member)
 
-abbrev pub member_of : Option IndexEntry → Option ℕ
-member_of None = None
-member_of (Some entry) = Some entry.member
+abbrev pub member_of_entry : Option IndexEntry → Option ℕ
+member_of_entry None = None
+member_of_entry (Some entry) = Some entry.member
 
 abbrev pub row_of_further : Option FurtherDefinition → Option ℕ
 row_of_further None = None
@@ -32,11 +32,11 @@ row_of_further (Some further) = further.row
 -- the line of an entry, by its number in the lists
 abbrev pub line_of_number : Format → List OpenedArchive → List IndexEntry → (name : List ℕ) → (number : ℕ) → List ℕ
 line_of_number format archives entries name number =
-    named_line (had_front format (row_with_entry archives (number / 2)) (member_of (slice_get entries (number / 2)))) (Whole name)
+    named_line (had_front format (row_with_entry archives (number / 2)) (member_of_entry (slice_get entries (number / 2)))) (Whole name)
 
 -- and of a further definition, by its place
-abbrev pub line_of_place : Format → List FurtherDefinition → (name : List ℕ) → (place : ℕ) → List ℕ
-line_of_place format further name place = named_line (further_front format (row_of_further (slice_get further place))) (Whole name)
+abbrev pub line_of_further : Format → List FurtherDefinition → (name : List ℕ) → (place : ℕ) → List ℕ
+line_of_further format further name place = named_line (further_front format (row_of_further (slice_get further place))) (Whole name)
 
 -- the lines after that of a key, by what the link says of it
 abbrev pub lines_found : Format → Linking → (name : List ℕ) → (key : ℕ) → FoundState → List (List ℕ)

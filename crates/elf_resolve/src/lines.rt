@@ -131,7 +131,7 @@ fn show_if_chosen<F: InputFiles, W: Sink, R: Render>(
         RowsAscend link.now.room.names →
         IsNameOfRow (F.text files.now) names link.now.room.names index row.input row.member →
         WritesText out.old out.new result (concat (row_if_shown problems R.FORMAT names link.now
-            index (row_shown link.now.end index row))) }
+        index (row_shown link.now.end index row))) }
 {
     let row = shown_row(link, index, row);
     if !is_chosen(link, index, row.kind, problems) {

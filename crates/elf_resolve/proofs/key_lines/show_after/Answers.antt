@@ -26,5 +26,5 @@ returns-then-has_offers g c = record {
       let still = c.show_spare.ensures.none (listed.spare c.args.key) in
       writes_still tt c.show_spare.result _
       (after_offers g.R.Render.FORMAT c.args.link.now c.args.name.now c.args.key c.args.state listed {X = Unit {0}} c.args.out.now c.show_offers.new.out (Ok tt)
-          (sym c.is_multiple.ensures ∙ c.if-is_multiple.false) (sym c.has_offers.ensures ∙ c.if-has_offers.true) c.in_ok-show_offers.ensures.writes) still.0 still.1;
+      (sym c.is_multiple.ensures ∙ c.if-is_multiple.false) (sym c.has_offers.ensures ∙ c.if-has_offers.true) c.in_ok-show_offers.ensures.writes) still.0 still.1;
 }

@@ -23,7 +23,7 @@ returns-in_err-more-clause-writes g c =
     let key : get_or c.order-key-items.result.now i 0 ≡ get_or order i 0 = ap (λ (l : List ℕ). get_or l i 0) c.order-key-items.ensures in
     keys_fail c.args.problems g.R.Render.FORMAT output made order i 0 c.loop-key.fails c.args.out.now c.loop-key.out c.show_if_own.new.out fault there (c.loop-key.invariant listed)
     (subst (λ (k : ℕ). SinkTakesPrefix c.loop-key.out c.show_if_own.new.out (concat (key_if_shown c.args.problems g.R.Render.FORMAT output made k)) × IsOutFault c.show_if_own.new.out fault) key
-        (c.in_err-more.ensures.writes listed)))
+    (c.in_err-more.ensures.writes listed)))
 
 pub loop-key-preserved : goal.loop-key-preserved
 loop-key-preserved g c = λ listed.
@@ -35,5 +35,5 @@ loop-key-preserved g c = λ listed.
     let key : get_or c.order-key-items.result.now i 0 ≡ get_or order i 0 = ap (λ (l : List ℕ). get_or l i 0) c.order-key-items.ensures in
     rw (c.either-fails.ensures)
     (keys_more c.args.problems g.R.Render.FORMAT output made order i 0 c.loop-key.fails c.in_ok-more.more c.args.out.now c.loop-key.out c.show_if_own.new.out there (c.loop-key.invariant listed)
-        (subst (λ (k : ℕ). SinkTakes c.loop-key.out c.show_if_own.new.out (concat (key_if_shown c.args.problems g.R.Render.FORMAT output made k))) key (c.in_ok-more.ensures.writes listed))
-        (c.in_ok-more.ensures.fails listed ∙ ap (is_unresolved output made) key))
+    (subst (λ (k : ℕ). SinkTakes c.loop-key.out c.show_if_own.new.out (concat (key_if_shown c.args.problems g.R.Render.FORMAT output made k))) key (c.in_ok-more.ensures.writes listed))
+    (c.in_ok-more.ensures.fails listed ∙ ap (is_unresolved output made) key))

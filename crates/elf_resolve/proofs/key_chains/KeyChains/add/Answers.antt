@@ -14,5 +14,5 @@ returns c =
     let new : ChainTable = record { heads = c.put-2.new.elements.items; nexts = c.put.new.elements.items; keys = inside.keys; numbers = inside.numbers } in
     subst (λ (old : ChainTable). AddsNumber old new key number) c.self.view_is
     (number_added (record { heads = inside.heads.items; nexts = inside.nexts.items; keys = inside.keys; numbers = inside.numbers }) new heads nexts key number
-        (omega arith) refl refl c.reach.ensures.same c.reach.ensures.there c.reach-2.ensures.same c.reach-2.ensures.there
-        c.put-2.ensures.items (c.put.ensures.items ∙ ap (set nexts number) first))
+    (omega arith) refl refl c.reach.ensures.same c.reach.ensures.there c.reach-2.ensures.same c.reach-2.ensures.there
+    c.put-2.ensures.items (c.put.ensures.items ∙ ap (set nexts number) first))
