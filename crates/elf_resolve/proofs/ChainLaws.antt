@@ -3,14 +3,14 @@ use Rattle.std.proofs.Common.{◌≡◌, ◌≢◌, ℕ, zero, suc, ◌+◌, ◌
 use Rattle.std.specs.Prelude.{◌==◌, if◌then◌else◌}
 use Rattle.std.proofs.lemmas.Bool.{eqb-true, eqb-false, eq-eqb, ne_eqb}
 use Rattle.std.proofs.lemmas.List.{get_or-set_same, get_or-set_other}
-use Rattle.elf_resolve.specs.KeyChains.{AddsNumber, AscendsBy, ChainTable, HasLists, IsListFrom, LIST_END, first_number, list_with, number_after, number_or_end}
+use Rattle.elf_resolve.specs.KeyChains.{AddsNumber, AscendWithin, ChainTable, HasLists, IsListFrom, LIST_END, first_number, list_with, number_after, number_or_end}
 
 number_shown : (n : ℕ) → n < LIST_END → number_or_end n ≡ Some n
 number_shown n less = ap (λ (b : Bool). if b then None else Some n) (ne_eqb n LIST_END (λ e. omega (arith, e, less)))
 
 -- what is linked after each number of a list is what was
 kept_list : (old new : ChainTable) (number most : ℕ) → ((k : ℕ) → k ≢ number → get_or new.nexts k LIST_END ≡ get_or old.nexts k LIST_END)
-    → (numbers : List ℕ) (from : ℕ) (first : Option ℕ) → number + 1 ≤ from → AscendsBy from most numbers → IsListFrom old first numbers → IsListFrom new first numbers
+    → (numbers : List ℕ) (from : ℕ) (first : Option ℕ) → number + 1 ≤ from → AscendWithin from most numbers → IsListFrom old first numbers → IsListFrom new first numbers
 kept_list old new number most other [] from first below ascends list = list
 kept_list old new number most other (n ∷ numbers) from first below ascends list =
     let apart : n ≢ number = omega (arith, below, ascends.0) in
@@ -20,7 +20,7 @@ kept_list old new number most other (n ∷ numbers) from first below ascends lis
           (kept_list old new number most other numbers (n + 1) (number_after old n) (omega (arith, below, ascends.0)) ascends.2 list.1),
     )
 
-pub ascends_below : (from less most : ℕ) (numbers : List ℕ) → less ≤ from → AscendsBy from most numbers → AscendsBy less most numbers
+pub ascends_below : (from less most : ℕ) (numbers : List ℕ) → less ≤ from → AscendWithin from most numbers → AscendWithin less most numbers
 ascends_below from less most [] below ascends = tt
 ascends_below from less most (n ∷ numbers) below ascends = (omega (arith, below, ascends.0), ascends.1, ascends.2)
 
@@ -42,14 +42,14 @@ module _ (old new : ChainTable) (key number : ℕ) (small : number < LIST_END)
       subst (λ (n : Option ℕ). IsListFrom new n (list k)) (ap number_or_end (sym (heads_other k apart)))
       (kept_list old new number old.numbers nexts_other (list k) (number + 1) (first_number old k) (omega arith) (has.ascend k) (has.follow k))
 
-  ascends_by : (k : ℕ) (is : Bool) → AscendsBy number old.numbers (if is then number ∷ list k else list k)
+  ascends_by : (k : ℕ) (is : Bool) → AscendWithin number old.numbers (if is then number ∷ list k else list k)
   ascends_by k true = (omega arith, omega (arith, fits, numbers), has.ascend k)
   ascends_by k false = ascends_below (number + 1) number old.numbers (list k) (omega arith) (has.ascend k)
 
   pub lists_added : HasLists new number (list_with list key number)
   lists_added = record {
     follow = λ k. follows_by k (k == key) refl;
-    ascend = λ k. subst (λ (most : ℕ). AscendsBy number most (list_with list key number k)) (sym numbers) (ascends_by k (k == key));
+    ascend = λ k. subst (λ (most : ℕ). AscendWithin number most (list_with list key number k)) (sym numbers) (ascends_by k (k == key));
   }
 
 -- A NUMBER ADDED, by tables that are made longer by ends

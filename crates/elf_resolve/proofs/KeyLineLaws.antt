@@ -12,14 +12,14 @@ use Rattle.elf_model.specs.declared.formats.Format.{Format}
 use Rattle.elf_model.specs.declared.link_states.FurtherDefinition.{FurtherDefinition}
 use Rattle.elf_model.specs.declared.link_states.IndexEntry.{IndexEntry}
 use Rattle.elf_resolve.specs.EntryRows.{AreConsecutive, row_with_entry}
-use Rattle.elf_resolve.specs.KeyChains.{AscendsBy, ChainTable, HasLists, IsListFrom, first_number}
-use Rattle.elf_resolve.specs.KeyLines.{had_front, line_of_number, line_of_entry_place, member_of_entry, row_of_further}
+use Rattle.elf_resolve.specs.KeyChains.{AscendWithin, ChainTable, HasLists, IsListFrom, first_number}
+use Rattle.elf_resolve.specs.KeyLines.{had_front, line_of_number, line_of_further, member_of_entry, row_of_further}
 use Rattle.elf_resolve.specs.KeyLists.{entry_numbers, further_places, with_place}
 use Rattle.elf_resolve.specs.Resolved.{elements_in, open_archive}
 use Rattle.elf_resolve.specs.declared.archives.OpenedArchive.{OpenedArchive}
 
 -- HOW LONG a list is
-pub length_within : (from most : ℕ) (numbers : List ℕ) → from ≤ most → AscendsBy from most numbers → length numbers + from ≤ most
+pub length_within : (from most : ℕ) (numbers : List ℕ) → from ≤ most → AscendWithin from most numbers → length numbers + from ≤ most
 length_within from most [] within ascends = omega (arith, within)
 length_within from most (n ∷ numbers) within ascends = omega (arith, ascends.0, length_within (n + 1) most numbers ascends.1 ascends.2)
 
@@ -128,7 +128,7 @@ lines_of_further format name key at get (f ∷ further) gets =
         ∙ ap (λ (l : List (List ℕ)). named_line (further_front format f.row) (Whole name) ∷ l) rest
     by false rest = rest
 
-pub further_shown : (format : Format) (name : List ℕ) (key : ℕ) (further : List FurtherDefinition) → map (line_of_entry_place format further name) (further_places key 0 further) ≡ further_lines format name (filter (is_further_of key) further)
+pub further_shown : (format : Format) (name : List ℕ) (key : ℕ) (further : List FurtherDefinition) → map (line_of_further format further name) (further_places key 0 further) ≡ further_lines format name (filter (is_further_of key) further)
 further_shown format name key further = lines_of_further format name key 0 (slice_get further) further (λ i. ap (slice_get further) (the_same i))
   where
     the_same : (n : ℕ) → 0 + n ≡ n

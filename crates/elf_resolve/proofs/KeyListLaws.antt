@@ -4,15 +4,15 @@ use Rattle.std.specs.Prelude.{◌==◌, if◌then◌else◌}
 use Rattle.std.proofs.lemmas.Bool.{eqb-true, eqb-false, eq-eqb, ne_eqb}
 use Rattle.elf_model.specs.declared.link_states.FurtherDefinition.{FurtherDefinition}
 use Rattle.elf_model.specs.declared.link_states.IndexEntry.{IndexEntry}
-use Rattle.elf_resolve.specs.KeyChains.{AddsNumber, AscendsBy, ChainTable, HasLists, IsListFrom, LIST_END, first_number, list_with, number_after, number_or_end}
-use Rattle.elf_resolve.specs.KeyLists.{AreEntriesListed, AreFurtherOf, HasNumberRoom, ListsEntry, entry_numbers, further_places, with_place}
+use Rattle.elf_resolve.specs.KeyChains.{AddsNumber, AscendWithin, ChainTable, HasLists, IsListFrom, LIST_END, first_number, list_with, number_after, number_or_end}
+use Rattle.elf_resolve.specs.KeyLists.{AreKeyedEntries, AreKeyedFurther, HasNumberRoom, ListsEntry, entry_numbers, further_places, with_place}
 use Rattle.elf_resolve.proofs.ChainLaws.{ascends_below}
 
 -- the same lists, by another function
 pub lists_by : (chains : ChainTable) (from : ℕ) (list other : ℕ → List ℕ) → ((key : ℕ) → list key ≡ other key) → HasLists chains from list → HasLists chains from other
 lists_by chains from list other same has = record {
   follow = λ key. subst (λ (numbers : List ℕ). IsListFrom chains (first_number chains key) numbers) (same key) (has.follow key);
-  ascend = λ key. subst (λ (numbers : List ℕ). AscendsBy from chains.numbers numbers) (same key) (has.ascend key);
+  ascend = λ key. subst (λ (numbers : List ℕ). AscendWithin from chains.numbers numbers) (same key) (has.ascend key);
 }
 
 pub lists_below : (chains : ChainTable) (from less : ℕ) (list : ℕ → List ℕ) → less ≤ from → HasLists chains from list → HasLists chains less list
@@ -86,7 +86,7 @@ one_listed old new e place n n_is same added = record {
 pub record AreListedFrom (first chains : ChainTable) (place : ℕ) (entries : List IndexEntry) : Type 0 where
   pub keys : chains.keys ≡ first.keys
   pub numbers : chains.numbers ≡ first.numbers
-  pub lists : AreEntriesListed first.keys entries → HasNumberRoom first (length entries + length entries) → HasLists chains (place + place) (λ key. entry_numbers key place (drop place entries))
+  pub lists : AreKeyedEntries first.keys entries → HasNumberRoom first (length entries + length entries) → HasLists chains (place + place) (λ key. entry_numbers key place (drop place entries))
 
 drop_past : {A : Type 0} (n : ℕ) (xs : List A) → length xs ≤ n → drop n xs ≡ []
 drop_past zero [] past = refl
@@ -102,7 +102,7 @@ none_listed first entries place all = record {
       (λ key. sym (ap (entry_numbers key place) (drop_past place entries (omega (arith, all))))) (no_lists first (place + place) room.empty);
 }
 
-pub entries_within : (keys : ℕ) (entries : List IndexEntry) (place : ℕ) (d : IndexEntry) → place < length entries → AreEntriesListed keys entries → ((get_or entries place d).key + 1 ≤ keys) × ((get_or entries place d).default_key + 1 ≤ keys)
+pub entries_within : (keys : ℕ) (entries : List IndexEntry) (place : ℕ) (d : IndexEntry) → place < length entries → AreKeyedEntries keys entries → ((get_or entries place d).key + 1 ≤ keys) × ((get_or entries place d).default_key + 1 ≤ keys)
 entries_within keys [] place d there within = absurd (omega (arith, there))
 entries_within keys (e ∷ entries) zero d there within = (within.0, within.1)
 entries_within keys (e ∷ entries) (suc place) d there within = entries_within keys entries place d (omega (arith, there)) within.2
@@ -128,14 +128,14 @@ entry_more first mid chains entries at place d next there before lists = record 
 }
 
 pub all_listed : (first chains : ChainTable) (entries : List IndexEntry) (place : ℕ) → place ≡ 0 → AreListedFrom first chains place entries
-    → AreEntriesListed first.keys entries → HasNumberRoom first (length entries + length entries) → HasLists chains 0 (λ key. entry_numbers key 0 entries)
+    → AreKeyedEntries first.keys entries → HasNumberRoom first (length entries + length entries) → HasLists chains 0 (λ key. entry_numbers key 0 entries)
 all_listed first chains entries place none listed keys room = subst (λ (n : ℕ). HasLists chains (n + n) (λ key. entry_numbers key n (drop n entries))) none (listed.lists keys room)
 
 -- THE FURTHER DEFINITIONS from a place on are listed
 pub record AreFurtherListed (first chains : ChainTable) (place : ℕ) (further : List FurtherDefinition) : Type 0 where
   pub keys : chains.keys ≡ first.keys
   pub numbers : chains.numbers ≡ first.numbers
-  pub lists : AreFurtherOf first.keys further → HasNumberRoom first (length further) → HasLists chains place (λ key. further_places key place (drop place further))
+  pub lists : AreKeyedFurther first.keys further → HasNumberRoom first (length further) → HasLists chains place (λ key. further_places key place (drop place further))
 
 pub none_further : (first : ChainTable) (further : List FurtherDefinition) (place : ℕ) → place ≡ length further → AreFurtherListed first first place further
 none_further first further place all = record {
@@ -145,7 +145,7 @@ none_further first further place all = record {
       (λ key. sym (ap (further_places key place) (drop_past place further (omega (arith, all))))) (no_lists first place room.empty);
 }
 
-further_within : (keys : ℕ) (further : List FurtherDefinition) (place : ℕ) (d : FurtherDefinition) → place < length further → AreFurtherOf keys further → (get_or further place d).key + 1 ≤ keys
+further_within : (keys : ℕ) (further : List FurtherDefinition) (place : ℕ) (d : FurtherDefinition) → place < length further → AreKeyedFurther keys further → (get_or further place d).key + 1 ≤ keys
 further_within keys [] place d there within = absurd (omega (arith, there))
 further_within keys (f ∷ further) zero d there within = within.0
 further_within keys (f ∷ further) (suc place) d there within = further_within keys further place d (omega (arith, there)) within.1
@@ -172,5 +172,5 @@ further_more first mid chains further at place d next there before adds = record
 }
 
 pub all_further : (first chains : ChainTable) (further : List FurtherDefinition) (place : ℕ) → place ≡ 0 → AreFurtherListed first chains place further
-    → AreFurtherOf first.keys further → HasNumberRoom first (length further) → HasLists chains 0 (λ key. further_places key 0 further)
+    → AreKeyedFurther first.keys further → HasNumberRoom first (length further) → HasLists chains 0 (λ key. further_places key 0 further)
 all_further first chains further place none listed keys room = subst (λ (n : ℕ). HasLists chains n (λ key. further_places key n (drop n further))) none (listed.lists keys room)

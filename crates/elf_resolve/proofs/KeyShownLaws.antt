@@ -16,7 +16,7 @@ use Rattle.elf_resolve.specs.EntryRows.{AreConsecutive}
 use Rattle.elf_resolve.specs.FoundStates.{found_word, has_offer_lines, is_fault_state, is_multiple_state}
 use Rattle.elf_resolve.specs.KeyChains.{IsListFrom, first_number}
 use Rattle.elf_resolve.specs.KeyFinds.{entry_held, state_found}
-use Rattle.elf_resolve.specs.KeyLines.{line_of_number, line_of_entry_place, lines_found}
+use Rattle.elf_resolve.specs.KeyLines.{line_of_number, line_of_further, lines_found}
 use Rattle.elf_resolve.specs.KeyLists.{entry_numbers, further_places}
 use Rattle.elf_resolve.specs.LinkTexts.{WritesText}
 use Rattle.elf_resolve.specs.LinkerNames.{output_of}
@@ -52,11 +52,11 @@ choose false false x y z = (λ is. cc, λ is there. cc)
 module _ (format : Format) (link : Resolver) (name : List ℕ) (key : ℕ) (state : FoundState) (listed : AreKeysListed link) {X : Type 0} (a b : OutState) (result : Result X OutFault) where
   pub after_multiple : is_multiple_state state ≡ true
       → ((places : List ℕ) → IsListFrom link.further (first_number link.further key) places → length places ≤ link.further.numbers
-      → WritesText a b result (concat (map (line_of_entry_place format link.link.keys.keys.further name) places)))
+      → WritesText a b result (concat (map (line_of_further format link.link.keys.keys.further name) places)))
       → WritesText a b result (concat (lines_found format (linking_of link) name key state))
   after_multiple is writes =
       let further = link.link.keys.keys.further in
-      writes_as a b result (concat (map (line_of_entry_place format further name) (further_places key 0 further))) (concat (lines_found format (linking_of link) name key state))
+      writes_as a b result (concat (map (line_of_further format further name) (further_places key 0 further))) (concat (lines_found format (linking_of link) name key state))
       (ap concat (further_shown format name key further ∙ sym ((choose (is_multiple_state state) (has_offer_lines state) _ (offer_lines format name key (linking_of link).archives) []).0 is)))
       (writes (further_places key 0 further) (listed.further.follow key) (list_fits link.further (λ k. further_places k 0 further) key listed.further))
 

@@ -28,14 +28,14 @@ IsListFrom chains first [] = first ≡ None
 IsListFrom chains first (n ∷ numbers) = (first ≡ Some n) × IsListFrom chains (number_after chains n) numbers
 
 -- numbers that ascend, from one on and below another
-abbrev pub AscendsBy : (from most : ℕ) → List ℕ → Type 0
-AscendsBy from most [] = Unit {0}
-AscendsBy from most (n ∷ numbers) = (from ≤ n) × (n + 1 ≤ most) × AscendsBy (n + 1) most numbers
+abbrev pub AscendWithin : (from most : ℕ) → List ℕ → Type 0
+AscendWithin from most [] = Unit {0}
+AscendWithin from most (n ∷ numbers) = (from ≤ n) × (n + 1 ≤ most) × AscendWithin (n + 1) most numbers
 
 -- THE LIST OF EACH KEY, of numbers from one on
 pub record HasLists (chains : ChainTable) (from : ℕ) (list : ℕ → List ℕ) : Type 0 where
   pub follow : (key : ℕ) → IsListFrom chains (first_number chains key) (list key)
-  pub ascend : (key : ℕ) → AscendsBy from chains.numbers (list key)
+  pub ascend : (key : ℕ) → AscendWithin from chains.numbers (list key)
 
 -- the lists with a number before those of a key
 abbrev pub list_with : (ℕ → List ℕ) → (key number : ℕ) → ℕ → List ℕ

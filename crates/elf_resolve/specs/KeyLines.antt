@@ -35,8 +35,8 @@ line_of_number format archives entries name number =
     named_line (had_front format (row_with_entry archives (number / 2)) (member_of_entry (slice_get entries (number / 2)))) (Whole name)
 
 -- and of a further definition, by its place
-abbrev pub line_of_entry_place : Format → List FurtherDefinition → (name : List ℕ) → (place : ℕ) → List ℕ
-line_of_entry_place format further name place = named_line (further_front format (row_of_further (slice_get further place))) (Whole name)
+abbrev pub line_of_further : Format → List FurtherDefinition → (name : List ℕ) → (place : ℕ) → List ℕ
+line_of_further format further name place = named_line (further_front format (row_of_further (slice_get further place))) (Whole name)
 
 -- the lines after that of a key, by what the link says of it
 abbrev pub lines_found : Format → Linking → (name : List ℕ) → (key : ℕ) → FoundState → List (List ℕ)

@@ -24,13 +24,13 @@ further_places key place (f ∷ further) =
     if f.key == key then place ∷ further_places key (place + 1) further else further_places key (place + 1) further
 
 -- there are lists for all keys
-abbrev pub AreEntriesListed : (keys : ℕ) → List IndexEntry → Type 0
-AreEntriesListed keys [] = Unit {0}
-AreEntriesListed keys (e ∷ entries) = (e.key + 1 ≤ keys) × (e.default_key + 1 ≤ keys) × AreEntriesListed keys entries
+abbrev pub AreKeyedEntries : (keys : ℕ) → List IndexEntry → Type 0
+AreKeyedEntries keys [] = Unit {0}
+AreKeyedEntries keys (e ∷ entries) = (e.key + 1 ≤ keys) × (e.default_key + 1 ≤ keys) × AreKeyedEntries keys entries
 
-abbrev pub AreFurtherOf : (keys : ℕ) → List FurtherDefinition → Type 0
-AreFurtherOf keys [] = Unit {0}
-AreFurtherOf keys (f ∷ further) = (f.key + 1 ≤ keys) × AreFurtherOf keys further
+abbrev pub AreKeyedFurther : (keys : ℕ) → List FurtherDefinition → Type 0
+AreKeyedFurther keys [] = Unit {0}
+AreKeyedFurther keys (f ∷ further) = (f.key + 1 ≤ keys) × AreKeyedFurther keys further
 
 -- ROOM for so many numbers, in lists that are empty
 pub record HasNumberRoom (chains : ChainTable) (count : ℕ) : Type 0 where

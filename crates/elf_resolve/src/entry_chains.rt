@@ -1,7 +1,7 @@
 //! The entries of indexes and the further definitions by their keys.
 ghost use Rattle.std.specs.Prelude.{◌≡◌, ◌+◌, length};
 ghost use Rattle.elf_resolve.specs.KeyChains.{HasLists};
-ghost use Rattle.elf_resolve.specs.KeyLists.{AreEntriesListed, AreFurtherOf, HasNumberRoom, ListsEntry, entry_numbers, further_places};
+ghost use Rattle.elf_resolve.specs.KeyLists.{AreKeyedEntries, AreKeyedFurther, HasNumberRoom, ListsEntry, entry_numbers, further_places};
 
 use crate::key_chains::KeyChains;
 use crate::resolver::Resolver;
@@ -12,7 +12,7 @@ impl Resolver<'_> {
     pub(crate) fn chain_entries(&mut self)
         ensures same { self.new ≡ record self.old { offers = self.new.offers } }
         ensures lists { let entries = self.old.tables.entries.items in
-            AreEntriesListed self.old.offers.keys entries →
+            AreKeyedEntries self.old.offers.keys entries →
             HasNumberRoom self.old.offers (length entries + length entries) →
             HasLists self.new.offers 0 (λ key. entry_numbers key 0 entries) }
     {
@@ -23,7 +23,7 @@ impl Resolver<'_> {
     pub(crate) fn chain_further(&mut self)
         ensures same { self.new ≡ record self.old { further = self.new.further } }
         ensures lists { let further = self.old.link.keys.keys.further in
-            AreFurtherOf self.old.further.keys further →
+            AreKeyedFurther self.old.further.keys further →
             HasNumberRoom self.old.further (length further) →
             HasLists self.new.further 0 (λ key. further_places key 0 further) }
     {
@@ -33,7 +33,7 @@ impl Resolver<'_> {
 
 /// Lists entries by their keys, each before those of later places.
 fn list_entries(offers: &mut KeyChains, entries: &[IndexEntry])
-    ensures { AreEntriesListed offers.old.keys entries.now →
+    ensures { AreKeyedEntries offers.old.keys entries.now →
         HasNumberRoom offers.old (length entries.now + length entries.now) →
         HasLists offers.new 0 (λ key. entry_numbers key 0 entries.now) }
 {
@@ -57,7 +57,7 @@ fn list_entry(offers: &mut KeyChains, entry: IndexEntry, place: usize)
 
 /// Lists further definitions by their keys, each before those of later places.
 fn list_further(chains: &mut KeyChains, further: &[FurtherDefinition])
-    ensures { AreFurtherOf chains.old.keys further.now →
+    ensures { AreKeyedFurther chains.old.keys further.now →
         HasNumberRoom chains.old (length further.now) →
         HasLists chains.new 0 (λ key. further_places key 0 further.now) }
 {

@@ -149,13 +149,13 @@ fn versioned_names(
     if !is_hidden && (number < 2 || is_absolute) {
         return Ok((name, None));
     }
-    let is_symbol_reference = symbol.st_shndx == SHN_UNDEF;
-    let version = match version_of(versions, number, is_symbol_reference) {
+    let is_reference = symbol.st_shndx == SHN_UNDEF;
+    let version = match version_of(versions, number, is_reference) {
         Some(version) => version,
         None => return file_refused(rows.place(index), Cause::VersionIndex),
     };
     let joined = strings.join(name, version, rows.place(index))?;
-    if is_symbol_reference || is_hidden {
+    if is_reference || is_hidden {
         return Ok((joined, None));
     }
     Ok((joined, Some(name)))
@@ -163,8 +163,8 @@ fn versioned_names(
 
 /// Returns the name of the version of an index: among those that are needed for a reference, among
 /// those that are defined otherwise; a hidden definition without a version has an empty one.
-fn version_of(versions: &VersionNames, number: u16, is_symbol_reference: bool) -> Option<HeldText> {
-    if is_symbol_reference {
+fn version_of(versions: &VersionNames, number: u16, is_reference: bool) -> Option<HeldText> {
+    if is_reference {
         return versions.needed(number);
     }
     if number < 2 {

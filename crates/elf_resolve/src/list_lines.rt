@@ -3,7 +3,7 @@ ghost use Rattle.std.specs.Prelude.{◌≡◌, ℕ, ◌≤◌, List, None, Ok, l
 ghost use Rattle.std.specs.List.{concat};
 ghost use Rattle.elf_resolve.specs.EntryRows.{AreConsecutive};
 ghost use Rattle.elf_resolve.specs.KeyChains.{IsListFrom, first_number};
-ghost use Rattle.elf_resolve.specs.KeyLines.{line_of_number, line_of_entry_place};
+ghost use Rattle.elf_resolve.specs.KeyLines.{line_of_number, line_of_further};
 ghost use Rattle.elf_resolve.specs.LinkTexts.{WritesText};
 ghost use Rattle.elf_source.specs.Output.{OutPuts};
 
@@ -25,7 +25,7 @@ pub(crate) fn show_further<W: Sink, R: Render>(
     ensures writes { (places : List ℕ) →
         IsListFrom link.now.further (first_number link.now.further key) places →
         length places ≤ link.now.further.numbers →
-        let line = line_of_entry_place R.FORMAT link.now.link.keys.keys.further name.now in
+        let line = line_of_further R.FORMAT link.now.link.keys.keys.further name.now in
         WritesText out.old out.new result (concat (map line places)) }
 {
     let mut next = link.further.first(key);
@@ -50,7 +50,7 @@ fn show_place<W: Sink, R: Render>(
     out: &mut Out<W>,
 ) -> Result<(), OutFault>
     ensures puts { OutPuts out.old out.new result
-        (line_of_entry_place R.FORMAT link.now.link.keys.keys.further name.now place) }
+        (line_of_further R.FORMAT link.now.link.keys.keys.further name.now place) }
 {
     let row = match link.link.keys.further().get(place) {
         Some(further) => further.row,

@@ -5,9 +5,7 @@ use crate::resolver::Resolver;
 
 impl Resolver<'_> {
     /// Marks the rows that the lines of faults name.
-    pub(crate) fn mark_problems(&mut self)
-        ensures same { self.new ≡ record self.old { problems = self.new.problems } }
-    {
+    pub(crate) fn mark_problems(&mut self) {
         for place in 0..self.link.keys.order().len() {
             let key = match self.link.keys.order().get(place) {
                 Some(key) => *key,
