@@ -126,7 +126,8 @@ impl<S: Source> MembersOfArchive<'_, S> {
         let at = place_of(self.members, member)?;
         self.src.widen();
         let names = names_before(self.archive.names, at);
-        let extent = self.room.names.read(self.src, names, at, row)?;
+        let room = &mut *self.room;
+        let extent = room.names.read(self.src, names, at, row)?;
         narrow_to(self.src, extent)?;
         let taken = take_object(self.src, self.room, keys, row);
         self.src.widen();
