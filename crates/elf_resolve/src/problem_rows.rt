@@ -5,7 +5,9 @@ use crate::resolver::Resolver;
 
 impl Resolver<'_> {
     /// Marks the rows that the lines of faults name.
-    pub(crate) fn mark_problems(&mut self) {
+    pub(crate) fn mark_problems(&mut self)
+        ensures { self.new ≡ record self.old { problems = self.new.problems } }
+    {
         for place in 0..self.link.keys.order().len() {
             let key = match self.link.keys.order().get(place) {
                 Some(key) => *key,
@@ -25,7 +27,9 @@ impl Resolver<'_> {
     }
 
     /// Marks the row of a file, and of a member that of its archive.
-    fn mark(&mut self, row: Option<u32>) {
+    fn mark(&mut self, row: Option<u32>)
+        ensures { self.new ≡ record self.old { problems = self.new.problems } }
+    {
         let Some(row) = row else {
             return;
         };
@@ -44,7 +48,9 @@ impl Resolver<'_> {
     }
 
     /// Marks the rows of the further definitions of a key.
-    fn mark_further(&mut self, key: u32) {
+    fn mark_further(&mut self, key: u32)
+        ensures { self.new ≡ record self.old { problems = self.new.problems } }
+    {
         let mut next = self.further.first(key);
         for _ in 0..self.further.most() {
             let Some(place) = next else {
@@ -60,7 +66,9 @@ impl Resolver<'_> {
     }
 
     /// Marks the rows of the archives that have a key.
-    fn mark_offers(&mut self, key: u32) {
+    fn mark_offers(&mut self, key: u32)
+        ensures { self.new ≡ record self.old { problems = self.new.problems } }
+    {
         let mut next = self.offers.first(key);
         for _ in 0..self.offers.most() {
             let Some(place) = next else {
@@ -73,7 +81,9 @@ impl Resolver<'_> {
     }
 
     /// Marks the rows of the libraries that are not needed and have a key.
-    fn mark_spare(&mut self, key: u32) {
+    fn mark_spare(&mut self, key: u32)
+        ensures { self.new ≡ record self.old { problems = self.new.problems } }
+    {
         let mut next = self.spare.first(key);
         for _ in 0..self.spare.most() {
             let Some(place) = next else {
