@@ -1,6 +1,6 @@
 -- What symbols make of the entry of one name among keys.
 use Rattle.std.proofs.Common.{◌≡◌, ℕ, zero, suc, ◌<◌, ◌≤◌, Bool, true, false, List, [], ◌∷◌, ◌++◌, length, length-append, get_or, refl, sym, ap, ◌∙◌, arith}
-use Rattle.std.specs.Prelude.{Option, None, Some, bytes_eq, ◌&&◌, if◌then◌else◌}
+use Rattle.std.specs.Prelude.{Option, None, Some, bytes_eq, ◌&&◌, ◌||◌, if◌then◌else◌}
 use Rattle.std.proofs.lemmas.List.{get_or-set_other, get_or-set_same, get_or_past, length-set}
 use Rattle.std.proofs.lemmas.List.Quantifiers.{position-Some}
 use Rattle.std.proofs.lemmas.Slice.Eq.{bytes_eq-Decides}
@@ -129,8 +129,8 @@ either_state true a b same = refl
 either_state false a b same = same
 
 references_state : (symbol : SymbolUse) (r : SymbolRole) (row : Option ℕ) (entry : KeyEntry) → (references_by symbol r row entry).state ≡ entry.state
-references_state symbol Reference row entry = either_state symbol.dropped entry (record entry { reference = first_row entry.reference row }) refl
-references_state symbol WeakReference row entry = either_state symbol.dropped entry (record entry { weak_reference = first_row entry.weak_reference row }) refl
+references_state symbol Reference row entry = either_state (symbol.dropped || symbol.of_library) entry (record entry { reference = first_row entry.reference row }) refl
+references_state symbol WeakReference row entry = either_state (symbol.dropped || symbol.of_library) entry (record entry { weak_reference = first_row entry.weak_reference row }) refl
 references_state symbol r row entry = refl
 
 not_shared : (r : SymbolRole) → IsOwn r → is_shared r ≡ false

@@ -140,8 +140,8 @@ changed_gone entry symbol row (Enlarged size) = refl
 changed_gone entry symbol row (BecomesState made) = refl
 
 references_gone : (symbol : SymbolUse) (r : SymbolRole) (row : Option ℕ) (entry : KeyEntry) → (references_by symbol r row entry).is_gone ≡ entry.is_gone
-references_gone symbol Reference row entry = either_gone symbol.dropped entry (record entry { reference = first_row entry.reference row }) refl
-references_gone symbol WeakReference row entry = either_gone symbol.dropped entry (record entry { weak_reference = first_row entry.weak_reference row }) refl
+references_gone symbol Reference row entry = either_gone (symbol.dropped || symbol.of_library) entry (record entry { reference = first_row entry.reference row }) refl
+references_gone symbol WeakReference row entry = either_gone (symbol.dropped || symbol.of_library) entry (record entry { weak_reference = first_row entry.weak_reference row }) refl
 references_gone symbol r row entry = refl
 
 or_left : (a b : Bool) → a ≡ true → (a || b) ≡ true

@@ -23,8 +23,8 @@ pub mod KeyLineLaws
 pub mod KeyShownLaws
 pub mod ShownLaws
 pub mod LinkTextLaws
-pub mod FaultLaws
 pub mod MemberFaultLaws
+pub mod TakenObjectLaws
 pub mod MemberWalks
 pub mod MemberOffsets
 pub mod MemberPasses

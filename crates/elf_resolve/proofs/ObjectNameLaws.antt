@@ -69,6 +69,7 @@ pub unnamed_that : (bytes strings wanted : List ℕ) (index at other : ℕ) (fau
 unnamed_that bytes strings wanted index at other (fault.Refused refusal) is = ap (λ r. is_that r wanted) (sym is) ∙ that_any strings index other at wanted
 unnamed_that bytes strings wanted index at other fault.Read is = absurd is
 unnamed_that bytes strings wanted index at other fault.Open is = absurd is
+unnamed_that bytes strings wanted index at other fault.Memory is = absurd is
 
 -- THE SYMBOL at an offset is one of the name, or not
 pub other_binding : (file : List ℕ) (table_at at : ℕ) (name : List ℕ) → is_global file at ≡ false → ◌≡◌ {A = Option Bool} None (definition_at file table_at at name)

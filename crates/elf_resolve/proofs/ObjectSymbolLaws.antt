@@ -105,6 +105,7 @@ refused_name : (bytes strings : List ℕ) (index at : ℕ) (fault : LinkFault) �
 refused_name bytes strings index at (fault.Refused refusal) found = inr (ap refusal_of found)
 refused_name bytes strings index at fault.Read found = absurd found
 refused_name bytes strings index at fault.Open found = absurd found
+refused_name bytes strings index at fault.Memory found = absurd found
 
 called_refused : (file : List ℕ) (at : ℕ) (name : Result (List ℕ) LinkRefusal) (refusal : LinkRefusal) → refusal_of name ≡ Some refusal → refusal_of (symbol_called file at name) ≡ Some refusal
 called_refused file at (Err other) refusal is = is

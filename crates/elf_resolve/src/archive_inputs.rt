@@ -1,8 +1,8 @@
 //! The archives among the inputs of a link, and which of their members are taken.
-ghost use Rattle.std.specs.Prelude.{◌≡◌, ◌≤◌, ◌++◌, ℕ, List, [], ◌∷◌, OnOk, IfOk, IsErr, Some, drop, false, length, map, replicate};
+ghost use Rattle.std.specs.Prelude.{◌≡◌, ◌≤◌, ◌++◌, ℕ, List, [], ◌∷◌, OnOk, IfOk, IsErr, None, Some, drop, false, length, map, replicate};
 ghost use Rattle.std.specs.List.{slice_get};
 ghost use Rattle.elf_model.specs.Archive.{bytes_in};
-ghost use Rattle.elf_model.specs.LinkArchives.{LinkFiles, LinkMember, files_as_inputs, link_members, member_bytes, members_as_objects, or_empty, whole_members};
+ghost use Rattle.elf_model.specs.LinkArchives.{LinkFiles, LinkMember, files_as_inputs, link_members, member_bytes, members_as_objects, members_refusal, or_empty, whole_members};
 ghost use Rattle.elf_model.specs.LinkInputs.{archive_again, input_taken, members_taken, whole_row, with_object};
 ghost use Rattle.elf_model.specs.LinkPasses.{archive_searched};
 ghost use Rattle.elf_model.specs.LinkSymbols.{object_of};
@@ -110,7 +110,7 @@ impl Resolver<'_> {
         ensures keeps { KeepsArchives self.old self.new }
         ensures enters { (file : List ℕ) → src.old.seen.file ≡ Some file →
             drop first self.old.tables.members.items ≡ map header_of (link_members file).members →
-            first ≤ length self.old.tables.members.items →
+            first ≤ length self.old.tables.members.items → members_refusal file ≡ None →
             OnOk result (EntersIndex is_whole file self.old self.new) }
     {
         if is_whole {

@@ -9,7 +9,7 @@ pub loop-byte-preserved : goal.loop-byte-preserved
 loop-byte-preserved c =
     let more = big_more c.args.bytes.now c.loop-byte.byte-index c.loop-byte-test.true in
     let fits = big_fits c.loop-byte.byte-index c.loop-byte.number (get_or c.args.bytes.now c.loop-byte.byte-index 0) (omega (arith, c.requires, c.loop-byte-test.true)) c.loop-byte.invariant.1 (omega arith) in
-    (omega (arith, more, c.loop-byte.invariant.0), fits.1)
+    (omega (arith, more, c.loop-byte.invariant.0), omega (arith, fits.1))
 
 pub returns : goal.returns
 returns c = c.loop-byte.invariant.0 ∙ big_all c.args.bytes.now c.loop-byte.byte-index (omega (arith, c.loop-byte-test.false))

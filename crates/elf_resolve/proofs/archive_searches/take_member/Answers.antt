@@ -1,16 +1,16 @@
-use Rattle.std.proofs.Common.{subst}
-use Rattle.std.specs.Prelude.{OnOk}
-use Rattle.elf_model.specs.LinkArchives.{members_as_objects}
-use Rattle.elf_model.specs.LinkPasses.{ArchiveMembers}
-use Rattle.elf_resolve.specs.LinkMembers.{file_of_range}
-use Rattle.elf_resolve.specs.Passing.{TookObject}
-use Rattle.elf_resolve.proofs.ResolvedLaws.{members_of_file, range_has}
+use Rattle.std.proofs.Common.{refl}
+use Rattle.std.specs.Prelude.{None, false}
+use Rattle.elf_model.specs.LinkArchives.{LinkFiles}
+use Rattle.elf_archive.specs.Members.{extent_of_names}
+use Rattle.elf_resolve.specs.LinkMembers.{KnownMembers}
+use Rattle.elf_resolve.proofs.ResolvedLaws.{range_has}
+use Rattle.elf_resolve.proofs.TakenObjectLaws.{took_object}
 use Rattle.elf_resolve.proofs.archive_searches.take_member.Goals as goal
 
 pub returns-clause-takes : goal.returns-clause-takes
-unfolding members_as_objects
 returns-clause-takes g c = λ file known has.
     let are = range_has file c.args.tables.now.members.items c.deref.result.now c.range_of-members.result.now c.args.place.archive c.deref.ensures.value has c.range_of-members.ensures in
-    let taken = c.take_member.ensures.takes (file, known, are) in
-    subst (λ (m : ArchiveMembers). OnOk c.take_member.result (TookObject (m.objects c.args.place.member) c.args.keys.now c.take_member.new.keys c.args.place.row))
-    (members_of_file (file_of_range c.args.src.now.seen) file c.args.room.now.headers known) taken
+    let members : KnownMembers c.args.src.now.seen.whole c.range_of-members.result.now (extent_of_names c.args.place.archive.names) =
+    record { file = file; is = known; unrefused = are.unrefused; offsets_are = are.offsets_are; names_are = are.names_are } in
+    let files : LinkFiles = record { file = λ input. None; is_archive = λ input. false; is_whole = λ input. false; headers = c.args.room.now.headers } in
+    took_object files file c.args.place.member c.args.place.row c.args.keys.now c.take_member.new.keys c.take_member.result (c.take_member.ensures.takes files refl members)
