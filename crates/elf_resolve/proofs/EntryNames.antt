@@ -1,6 +1,6 @@
 -- The names of an index, each with a NUL after it.
-use Rattle.std.proofs.Common.{◌≡◌, ◌≢◌, ℕ, zero, suc, ◌+◌, ◌-◌, ◌<◌, ◌≤◌, Bool, true, false, nat_lt, List, [], ◌∷◌, ◌++◌, length, take, drop, Option, None, Some, Result, Ok, Err, refl, sym, ap, subst, ◌∙◌, arith, length-take-le}
-use Rattle.std.specs.Prelude.{if◌then◌else◌, ◌==◌, ◌&&◌}
+use Rattle.std.proofs.Common.{◌≡◌, ℕ, ◌+◌, ◌<◌, ◌≤◌, true, false, nat_lt, List, length, take, drop, Option, None, Some, Ok, Err, refl, sym, ap, subst, ◌∙◌, arith, length-take-le}
+use Rattle.std.specs.Prelude.{◌==◌, ◌&&◌}
 use Rattle.std.proofs.Math.ListN.{drop_of_length-le}
 use Rattle.std.proofs.lemmas.Bool.Decides.{nat_tests}
 use Rattle.std.proofs.lemmas.List.{length-drop, take_all}
@@ -9,7 +9,6 @@ use Rattle.elf_model.specs.LinkSymbols.{link_name}
 use Rattle.elf_model.specs.Names.{is_empty_at_zero, nul_in, shown}
 use Rattle.elf_model.specs.declared.causes.Cause.TheVariants.{NameUnended}
 use Rattle.elf_model.specs.declared.link_states.LinkCause.TheVariants as cause
-use Rattle.elf_model.specs.declared.link_states.LinkRefusal.{LinkRefusal}
 use Rattle.elf_model.proofs.Nuls.{some-free}
 use Rattle.elf_resolve.specs.ArchiveIndexes.{EndedName}
 use Rattle.elf_resolve.specs.StringBuffers.{FindsText, HoldsText}

@@ -1,5 +1,5 @@
 -- The checks of a section group, one after the other, and the group itself.
-use Rattle.std.proofs.Common.{◌≡◌, ℕ, ◌+◌, ◌-◌, ◌*◌, ◌/◌, ◌%◌, ◌<◌, ◌≤◌, ◌==◌, Bool, true, false, List, [], ◌∷◌, ◌++◌, length, drop, refl, ap, ◌∙◌, sym, subst, arith, inl, inr}
+use Rattle.std.proofs.Common.{◌≡◌, ℕ, ◌+◌, ◌%◌, ◌<◌, ◌≤◌, ◌==◌, Bool, true, false, List, [], ◌∷◌, ◌++◌, length, refl, ap, ◌∙◌, sym, subst, arith, inl, inr}
 use Rattle.std.specs.Prelude.{Option, None, Some, Result, Ok, Err, IfSome, if◌then◌else◌, nat_lt, not}
 use Rattle.std.proofs.lemmas.Bool.{cases_Bool}
 use Rattle.std.proofs.lemmas.Bool.Decides.{nat_tests}
@@ -9,7 +9,7 @@ use Rattle.elf_model.specs.Checks.{Check, first_refusal, is_outside, range_check
 use Rattle.elf_model.specs.LinkSymbols.{as_any, comdat_group, group_checks, group_in, is_comdat, signature_of}
 use Rattle.elf_model.specs.LinkObjects.{SectionGroup}
 use Rattle.elf_model.specs.declared.link_states.LinkRefusal.{LinkRefusal}
-use Rattle.elf_model.specs.Records.{sh_info, sh_link, sh_offset, sh_size}
+use Rattle.elf_model.specs.Records.{sh_info, sh_offset, sh_size}
 use Rattle.elf_model.specs.Tables.{SYMBOL_SIZE, entry_count, has_symbols, linked_at, linked_table_checks, symbol_table_checks}
 use Rattle.elf_model.specs.declared.causes.Cause.TheVariants.{BadLink, SizeNotWhole, SymbolIndex, TableOutside}
 use Rattle.elf_model.specs.declared.causes.Refusal.{Refusal}

@@ -1,16 +1,14 @@
 -- The index of an archive: its width, its parts, and its entries one after the other.
-use Rattle.std.proofs.Common.{◌≡◌, ◌≢◌, ℕ, zero, suc, ◌+◌, ◌-◌, ◌*◌, ◌/◌, ◌^◌, ◌<◌, ◌≤◌, Bool, true, false, nat_lt, List, [], ◌∷◌, ◌++◌, length, get_or, take, drop, Option, None, Some, Result, Ok, Err, refl, sym, ap, ◌∙◌, add-one, arith, append_assoc}
-use Rattle.std.specs.Prelude.{if◌then◌else◌, map, ◌==◌, ◌&&◌, not, reverse, option_map}
-use Rattle.std.specs.List.{position_or_len}
+use Rattle.std.proofs.Common.{◌≡◌, ℕ, zero, suc, ◌+◌, ◌-◌, ◌*◌, ◌/◌, ◌^◌, ◌<◌, ◌≤◌, Bool, true, false, nat_lt, List, [], ◌∷◌, ◌++◌, length, get_or, take, drop, Option, None, Some, Result, Ok, Err, refl, sym, ap, ◌∙◌, add-one, arith, append_assoc}
+use Rattle.std.specs.Prelude.{if◌then◌else◌, ◌==◌, not, reverse}
 use Rattle.std.proofs.Math.Nat.{le-div_iff_mul-le, mul-le-mul_left, pow-le-pow_right, pow-succ'}
 use Rattle.std.proofs.lemmas.Bool.Decides.{nat_tests}
-use Rattle.std.proofs.lemmas.List.{append-nil, length-drop, reverse-append, take_all, take_more}
+use Rattle.std.proofs.lemmas.List.{reverse-append, take_all, take_more}
 use Rattle.elf_model.specs.Archive.{FileRange, bytes_in}
 use Rattle.elf_model.specs.Bytes.{field, number, slice}
-use Rattle.elf_model.specs.LinkArchives.{LinkMember, archive_index, big, index_in, index_symbols, index_width, link_member_at, symbol_of_index, symbols_after}
+use Rattle.elf_model.specs.LinkArchives.{LinkMember, big, index_in, index_symbols, index_width, link_member_at, symbol_of_index, symbols_after}
 use Rattle.elf_model.specs.LinkInputs.{EnteredIndex, IndexSymbol, index_entered, symbol_entered}
-use Rattle.elf_model.specs.LinkSymbols.{link_name}
-use Rattle.elf_model.specs.Names.{nul_in, shown}
+use Rattle.elf_model.specs.Names.{nul_in}
 use Rattle.elf_model.specs.declared.link_states.LinkCause.TheVariants as cause
 use Rattle.elf_model.specs.declared.link_states.LinkRefusal.{LinkRefusal}
 use Rattle.elf_resolve.specs.ArchiveIndexes.{width_at}

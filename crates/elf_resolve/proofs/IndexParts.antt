@@ -1,9 +1,8 @@
 -- The parts of an index, and the names of its symbols.
-use Rattle.std.proofs.Common.{◌≡◌, ◌≢◌, ℕ, zero, suc, ◌+◌, ◌-◌, ◌*◌, ◌/◌, ◌^◌, ◌<◌, ◌≤◌, ◌==◌, ◌&&◌, nat_lt, Bool, true, false, List, [], ◌∷◌, ◌++◌, length, get_or, drop, take, Option, None, Some, Result, Ok, Err, inl, inr, refl, sym, ap, subst, ◌∙◌, add-one, arith, drop-cons}
-use Rattle.std.specs.Prelude.{if◌then◌else◌, map, not}
+use Rattle.std.proofs.Common.{◌≡◌, ℕ, zero, suc, ◌+◌, ◌-◌, ◌*◌, ◌^◌, ◌<◌, ◌≤◌, ◌==◌, ◌&&◌, nat_lt, Bool, true, false, List, [], ◌∷◌, ◌++◌, length, get_or, drop, take, None, Some, Result, Ok, Err, inr, refl, sym, ap, subst, ◌∙◌, arith, drop-cons}
+use Rattle.std.specs.Prelude.{map, not}
 use Rattle.std.proofs.lemmas.Bool.Decides.{nat_tests}
 use Rattle.std.proofs.lemmas.List.{append-nil, get_or_past, length-drop, length-map, nil_from_length, take_all}
-use Rattle.elf_archive.specs.Members.{extent_of}
 use Rattle.elf_model.specs.Archive.{FileRange, bytes_in, member_data}
 use Rattle.elf_model.specs.Bytes.{slice}
 use Rattle.elf_model.specs.LinkArchives.{LinkMember, archive_index, big, index_in, index_symbols, index_width, link_members, link_members_from, members_refusal, refusal_of, symbol_of_index}
@@ -17,12 +16,11 @@ use Rattle.elf_model.specs.declared.link_states.IndexEntry.{IndexEntry}
 use Rattle.elf_model.specs.declared.link_states.LinkCause.TheVariants as cause
 use Rattle.elf_resolve.specs.ArchiveIndexes.{EnteredName, EntersDefault, EntersIndexBy, EntersName, FindsIndex, FindsParts, FoundIndex, HasParts, HoldsIndex}
 use Rattle.elf_resolve.specs.KeyTables.{Entered, KeyList}
-use Rattle.elf_resolve.specs.StringBuffers.{HoldsText, SplitName}
+use Rattle.elf_resolve.specs.StringBuffers.{HoldsText}
 use Rattle.elf_resolve.specs.MemberExtents.{member_refused}
 use Rattle.elf_resolve.specs.Taken.{IsLinkFault, ReadIndex, ReadsIndex, header_of}
 use Rattle.elf_resolve.specs.declared.index_parts.IndexParts.{IndexParts}
 use Rattle.elf_resolve.specs.declared.link_faults.LinkFault.{LinkFault}
-use Rattle.elf_resolve.specs.declared.link_faults.LinkFault.TheVariants.{Refused}
 use Rattle.elf_resolve.specs.declared.string_buffer.HeldText.{HeldText}
 use Rattle.elf_resolve.proofs.IndexLaws.{cut_index, whole_index}
 use Rattle.elf_resolve.proofs.LinkFaultLaws.{fault_of_any}

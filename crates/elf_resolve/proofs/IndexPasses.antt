@@ -1,5 +1,5 @@
 -- The entries of an index so far, one after the other.
-use Rattle.std.proofs.Common.{◌≡◌, ℕ, zero, suc, ◌+◌, ◌-◌, ◌*◌, ◌<◌, ◌≤◌, List, [], ◌∷◌, ◌++◌, length, drop, take, Option, None, Some, Result, Ok, Err, refl, sym, ap, subst, ◌∙◌, inl, inr, arith, append_assoc}
+use Rattle.std.proofs.Common.{◌≡◌, ℕ, zero, suc, ◌+◌, ◌*◌, ◌<◌, ◌≤◌, List, [], ◌∷◌, ◌++◌, length, drop, take, None, Some, Result, Ok, Err, refl, sym, ap, subst, ◌∙◌, inl, inr, arith, append_assoc}
 use Rattle.std.proofs.lemmas.List.{append-nil, drop-drop}
 use Rattle.elf_model.specs.LinkArchives.{LinkMember, big, index_symbols, link_member_at, refusal_of, symbol_of_index, symbols_after}
 use Rattle.elf_model.specs.LinkInputs.{EnteredIndex, IndexSymbol, index_entered, symbol_entered}

@@ -1,11 +1,11 @@
 -- The lists by keys are those of the definition: the lines of their numbers, and whether they are empty.
-use Rattle.std.proofs.Common.{◌≡◌, ℕ, zero, suc, ◌+◌, ◌-◌, ◌*◌, ◌/◌, ◌<◌, ◌≤◌, Bool, true, false, cond, ◌||◌, List, [], ◌∷◌, ◌++◌, length, map, take, drop, get_or, Option, None, Some, refl, sym, ap, subst, ◌∙◌, arith}
-use Rattle.std.specs.Prelude.{nat_lt, ◌==◌, if◌then◌else◌, is_some}
+use Rattle.std.proofs.Common.{◌≡◌, ℕ, zero, suc, ◌+◌, ◌-◌, ◌/◌, ◌<◌, ◌≤◌, Bool, true, false, cond, ◌||◌, List, [], ◌∷◌, ◌++◌, length, map, take, drop, Option, Some, refl, sym, ap, ◌∙◌, arith}
+use Rattle.std.specs.Prelude.{◌==◌, if◌then◌else◌, is_some}
 use Rattle.std.specs.List.{filter, list_any, slice_get}
 use Rattle.std.proofs.lemmas.Bool.{lt-ltb, le-ltb}
 use Rattle.std.proofs.lemmas.List.{map-append, take-append-drop, length-take-le, length-drop, drop-drop}
 use Rattle.elf_model.specs.LinkInputs.{OpenArchive}
-use Rattle.elf_model.specs.LinkLines.{entry_lines, further_front, further_lines, has_key, is_available, is_further_of, offer_front, offer_lines, offered_by}
+use Rattle.elf_model.specs.LinkLines.{entry_lines, further_front, further_lines, has_key, is_available, is_further_of, offer_front, offer_lines}
 use Rattle.elf_model.specs.Lines.{named_line}
 use Rattle.elf_model.specs.Names.DisplayedName.{Whole}
 use Rattle.elf_model.specs.declared.formats.Format.{Format}
@@ -14,8 +14,8 @@ use Rattle.elf_model.specs.declared.link_states.IndexEntry.{IndexEntry}
 use Rattle.elf_resolve.specs.EntryRows.{AreConsecutive, row_with_entry}
 use Rattle.elf_resolve.specs.KeyChains.{AscendWithin, ChainTable, HasLists, IsListFrom, first_number}
 use Rattle.elf_resolve.specs.KeyLines.{had_front, line_of_number, line_of_further, member_of_entry, row_of_further}
-use Rattle.elf_resolve.specs.KeyLists.{entry_numbers, further_places, with_place}
-use Rattle.elf_resolve.specs.Resolved.{elements_in, open_archive}
+use Rattle.elf_resolve.specs.KeyLists.{entry_numbers, further_places}
+use Rattle.elf_resolve.specs.Resolved.{open_archive}
 use Rattle.elf_resolve.specs.declared.archives.OpenedArchive.{OpenedArchive}
 
 -- HOW LONG a list is

@@ -1,10 +1,10 @@
 -- The lines of a key, and of the keys in their order.
-use Rattle.std.proofs.Common.{◌≡◌, ℕ, zero, suc, ◌+◌, ◌<◌, ◌≤◌, Bool, true, false, ◌&&◌, ◌||◌, List, [], ◌∷◌, ◌++◌, length, map, take, drop, get_or, drop-cons, Option, None, Some, Result, Ok, Err, refl, sym, ap, subst, ◌∙◌, arith, append_assoc, add-one}
+use Rattle.std.proofs.Common.{◌≡◌, ℕ, zero, suc, ◌+◌, ◌<◌, ◌≤◌, Bool, true, false, ◌&&◌, ◌||◌, List, [], ◌∷◌, ◌++◌, length, map, drop, get_or, drop-cons, Option, Result, Ok, Err, refl, sym, ap, subst, ◌∙◌, arith, append_assoc, add-one}
 use Rattle.std.specs.Prelude.{codes, if◌then◌else◌, not}
-use Rattle.std.specs.List.{concat, filter, list_any}
+use Rattle.std.specs.List.{concat, list_any}
 use Rattle.elf_model.specs.LinkInputs.{Linking}
 use Rattle.elf_model.specs.LinkKeys.{entry_named_as}
-use Rattle.elf_model.specs.LinkLines.{LinkOutput, definition_row, is_any, is_further_of, is_unresolved, key_front, key_lines, lines_after, offer_lines, reference_of, word_of_key}
+use Rattle.elf_model.specs.LinkLines.{LinkOutput, definition_row, is_any, is_unresolved, key_front, key_lines, lines_after, offer_lines, reference_of, word_of_key}
 use Rattle.elf_model.specs.Lines.{named_line}
 use Rattle.elf_model.specs.Names.DisplayedName.{Whole}
 use Rattle.elf_model.specs.declared.formats.Format.{Format}
@@ -21,7 +21,7 @@ use Rattle.elf_resolve.specs.KeyLists.{entry_numbers, further_places}
 use Rattle.elf_resolve.specs.LinkTexts.{WritesText}
 use Rattle.elf_resolve.specs.LinkerNames.{output_of}
 use Rattle.elf_resolve.specs.Resolved.{linking_of}
-use Rattle.elf_resolve.specs.ShownLinks.{is_shown_key, key_if_shown, shown_keys, status_if}
+use Rattle.elf_resolve.specs.ShownLinks.{is_shown_key, key_if_shown, shown_keys}
 use Rattle.elf_resolve.specs.StaticLinks.{AreKeysListed}
 use Rattle.elf_resolve.specs.declared.key_states.FoundState.{FoundState}
 use Rattle.elf_resolve.specs.declared.resolver.Resolver.{Resolver}

@@ -1,11 +1,10 @@
 -- Faults of a link: whose refusal they may be.
-use Rattle.std.proofs.Common.{◌≡◌, ℕ, ◌+◌, ◌<◌, ◌^◌, refl, ap, ◌∙◌, sym, subst, arith, inl, inr}
-use Rattle.std.specs.Prelude.{Option, None, Some, Result, Ok, Err}
-use Rattle.elf_model.specs.LinkArchives.{moved, refusal_of}
-use Rattle.elf_model.specs.LinkSymbols.{as_any}
+use Rattle.std.proofs.Common.{◌≡◌, ℕ, ◌+◌, ◌<◌, ◌^◌, ap, arith, inl, inr}
+use Rattle.std.specs.Prelude.{Option, None, Some}
+use Rattle.elf_model.specs.LinkArchives.{moved}
 use Rattle.elf_model.specs.declared.link_states.LinkRefusal.{LinkRefusal}
 use Rattle.elf_resolve.specs.LinkFaults.{MovesWithin}
-use Rattle.elf_resolve.specs.Taken.{IsLimit, IsLinkFault}
+use Rattle.elf_resolve.specs.Taken.{IsLinkFault}
 use Rattle.elf_resolve.specs.declared.link_faults.LinkFault.{LinkFault}
 use Rattle.elf_resolve.specs.declared.link_faults.LinkFault.TheVariants.{Refused, Read, Open, Memory}
 

@@ -1,11 +1,11 @@
 -- What is shown of a link without shared libraries is its answer.
-use Rattle.std.proofs.Common.{◌≡◌, ℕ, zero, suc, ◌+◌, ◌<◌, ◌≤◌, Bool, true, false, List, [], ◌∷◌, ◌++◌, length, get_or, Option, None, Some, refl, sym, ap, subst, ◌∙◌, arith, append_assoc}
+use Rattle.std.proofs.Common.{◌≡◌, ℕ, ◌+◌, Bool, true, false, List, [], ◌∷◌, ◌++◌, length, Option, None, Some, refl, sym, ap, ◌∙◌, arith, append_assoc}
 use Rattle.std.specs.Prelude.{if◌then◌else◌, ◌==◌}
 use Rattle.std.proofs.lemmas.Bool.{eq-eqb, ne_eqb}
 use Rattle.elf_model.specs.LinkArchives.{link_cause_word, refused_lines}
 use Rattle.elf_model.specs.LinkInputs.{Linking}
 use Rattle.elf_model.specs.LinkKeys.{LinkKeys}
-use Rattle.elf_model.specs.LinkLines.{FileNames, LinkOutput, file_front, file_lines, key_lines, keys_lines, link_lines, name_of_row, reason_lines, rows_lines}
+use Rattle.elf_model.specs.LinkLines.{FileNames, LinkOutput, file_front, file_lines, keys_lines, link_lines, name_of_row, reason_lines, rows_lines}
 use Rattle.elf_model.specs.Lines.{fault_line, named_line}
 use Rattle.elf_model.specs.declared.formats.Format.{Format}
 use Rattle.elf_model.specs.declared.link_states.LinkRow.{LinkRow}

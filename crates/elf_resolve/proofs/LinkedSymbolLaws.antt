@@ -1,14 +1,14 @@
 -- The symbol table of a group, and the signature that its symbol gives.
-use Rattle.std.proofs.Common.{◌≡◌, ℕ, zero, suc, ◌+◌, ◌-◌, ◌*◌, ◌/◌, ◌%◌, ◌<◌, ◌≤◌, ◌^◌, ◌==◌, Bool, true, false, ◌&&◌, List, [], ◌∷◌, ◌++◌, length, take, drop, refl, ap, ◌∙◌, sym, subst, arith, inl, inr}
-use Rattle.std.specs.Prelude.{Option, None, Some, Result, Ok, Err, if◌then◌else◌, nat_lt, not}
+use Rattle.std.proofs.Common.{◌≡◌, ℕ, zero, suc, ◌+◌, ◌*◌, ◌/◌, ◌%◌, ◌<◌, ◌≤◌, ◌^◌, ◌==◌, Bool, true, false, ◌&&◌, List, [], ◌∷◌, ◌++◌, length, take, drop, refl, ap, ◌∙◌, sym, subst, arith, inl, inr}
+use Rattle.std.specs.Prelude.{None, Result, Ok, Err, if◌then◌else◌, nat_lt, not}
 use Rattle.std.proofs.lemmas.Bool.{cases_Bool, eqb-true}
 use Rattle.std.proofs.lemmas.Bool.Decides.{nat_tests}
-use Rattle.elf_model.proofs.CheckSteps.{first_refusal-back, first_refusal-none, passes_front}
+use Rattle.elf_model.proofs.CheckSteps.{passes_front}
 use Rattle.elf_model.proofs.VersionSteps.{first-passes, others-pass}
 use Rattle.elf_model.specs.Bytes.{slice}
 use Rattle.elf_model.specs.Checks.{first_refusal, range_checks_of, refuse, strings_checks, table_checks, whole_checks_of}
 use Rattle.elf_model.specs.LinkArchives.{refusal_of}
-use Rattle.elf_model.specs.LinkSymbols.{group_checks, link_name, section_link_name, signature_by, signature_of}
+use Rattle.elf_model.specs.LinkSymbols.{link_name, section_link_name, signature_by, signature_of}
 use Rattle.elf_model.specs.Records.{e_shnum, section_at, sh_entsize, sh_info, sh_link, sh_offset, sh_size, st_name, st_shndx, st_type}
 use Rattle.elf_model.specs.Tables.{SYMBOL_SIZE, entry_at, entry_count, linked_at, section_bytes, strings_of, symbol_table_checks}
 use Rattle.elf_model.specs.declared.causes.Cause.TheVariants.{EntrySize, SizeNotWhole}
@@ -18,7 +18,6 @@ use Rattle.elf_record.specs.declared.sym.Sym.{Sym}
 use Rattle.elf_resolve.specs.ObjectTables.{HoldsSymbols}
 use Rattle.elf_resolve.specs.SectionGroups.{FindsSectionName, FoundGroup, SignsGroup}
 use Rattle.elf_resolve.specs.StringBuffers.{FindsText, HoldsText, ReadText, TableTexts}
-use Rattle.elf_resolve.specs.Taken.{IsLinkFault}
 use Rattle.elf_resolve.specs.declared.link_faults.LinkFault.{LinkFault}
 use Rattle.elf_resolve.specs.declared.link_faults.LinkFault.TheVariants.{Refused, Read, Open, Memory}
 use Rattle.elf_resolve.specs.declared.section_groups.GroupInFile.{GroupInFile}

@@ -1,13 +1,12 @@
 -- The names that a linker defines, in two parts: those that what it makes decides about, and the bounds
 -- of sections.
-use Rattle.std.proofs.Common.{◌≡◌, ℕ, Bool, true, false, ◌&&◌, ◌||◌, List, get_or, take, drop, length, Option, Some, None, cond, refl, ap, ◌∙◌, sym, arith, bytes_eq}
-use Rattle.std.specs.Prelude.{codes, not, if◌then◌else◌}
-use Rattle.std.specs.List.{list_any}
+use Rattle.std.proofs.Common.{◌≡◌, ℕ, Bool, true, false, ◌&&◌, ◌||◌, List, get_or, take, drop, Some, None, refl, ap, ◌∙◌, sym, arith, bytes_eq}
+use Rattle.std.specs.Prelude.{codes, if◌then◌else◌}
 use Rattle.std.proofs.lemmas.Slice.Eq.{bytes_eq-Decides}
 use Rattle.std.proofs.lemmas.List.{get_or-take}
 use Rattle.elf_model.specs.LinkKeys.{LinkKeys}
-use Rattle.elf_model.specs.LinkLines.{LinkOutput, bounds_section, has_section, linker_defines, linker_names}
-use Rattle.elf_resolve.specs.LinkerNames.{after_front, bounded_name, bounds_noted, defines_name, first_or}
+use Rattle.elf_model.specs.LinkLines.{LinkOutput, bounds_section, has_section, linker_defines}
+use Rattle.elf_resolve.specs.LinkerNames.{bounded_name, bounds_noted, defines_name, first_or}
 
 regrouped : (x d e : Bool) → (x || d || e) ≡ (x || (d || e))
 regrouped true d e = refl

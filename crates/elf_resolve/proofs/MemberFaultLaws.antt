@@ -1,5 +1,5 @@
 -- Faults of a link that reads of the members of an archive have.
-use Rattle.std.proofs.Common.{◌≡◌, ◌≤◌, ℕ, List, length, ap, inr}
+use Rattle.std.proofs.Common.{◌≤◌, ℕ, List, length, ap, inr}
 use Rattle.elf_model.specs.Archive.{member_data}
 use Rattle.elf_model.specs.declared.causes.Cause.TheVariants.{MemberCut}
 use Rattle.elf_model.specs.declared.link_states.LinkCause.TheVariants as cause

@@ -1,18 +1,16 @@
 -- The names of members in some bytes, by their rows.
-use Rattle.std.proofs.Common.{◌≡◌, ℕ, zero, suc, ◌+◌, ◌-◌, ◌<◌, ◌≤◌, ◌^◌, Bool, true, false, List, [], ◌∷◌, ◌++◌, length, get_or, drop, take, Option, None, Some, Result, Ok, Err, refl, sym, ap, subst, ◌∙◌, inr, arith, length-append}
+use Rattle.std.proofs.Common.{◌≡◌, ℕ, zero, suc, ◌+◌, ◌-◌, ◌<◌, ◌≤◌, Bool, true, false, List, [], ◌∷◌, ◌++◌, length, get_or, drop, take, refl, sym, ap, subst, ◌∙◌, arith, length-append}
 use Rattle.std.specs.Prelude.{◌==◌, ◌/◌, ◌≢◌, if◌then◌else◌, map, nat_lt}
 use Rattle.std.specs.List.Sorted.{IsStrictlyIncreasing}
 use Rattle.std.proofs.lemmas.Bool.Decides.{nat_tests}
 use Rattle.elf_model.specs.Names.{DisplayedName}
 use Rattle.elf_resolve.proofs.MemberOffsets.{far, no_less}
 use Rattle.std.specs.List.{All}
-use Rattle.std.proofs.lemmas.List.{append-nil, drop-append-le, get_or-map, length-map, drop_at, length-drop, map-append, take-append-le, take_all}
+use Rattle.std.proofs.lemmas.List.{drop-append-le, get_or-map, length-map, drop_at, length-drop, map-append, take-append-le, take_all}
 use Rattle.std.proofs.lemmas.List.Elements.{All-push}
-use Rattle.elf_model.specs.Archive.{member_data, member_name}
 use Rattle.elf_model.specs.Bytes.{slice}
-use Rattle.elf_model.specs.LinkArchives.{LINK_NAME_BYTES}
 use Rattle.elf_model.specs.ShownNames.{shown_as}
-use Rattle.elf_resolve.specs.MemberNames.{IsFirstFrom, IsNamePlaceIn, RowName, name_at_place, name_of_row_in, named_refusal, place_in, row_of_name, row_of_place}
+use Rattle.elf_resolve.specs.MemberNames.{IsFirstFrom, IsNamePlaceIn, name_at_place, name_of_row_in, place_in, row_of_name, row_of_place}
 use Rattle.elf_resolve.specs.declared.member_names.NamePlace.{NamePlace}
 use Rattle.elf_resolve.specs.declared.string_buffer.HeldText.{HeldText}
 

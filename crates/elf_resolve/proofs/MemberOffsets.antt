@@ -1,6 +1,6 @@
 -- The member whose header is at an offset, found among headers that ascend; and the table of names.
-use Rattle.std.proofs.Common.{◌≡◌, ◌≢◌, ℕ, zero, suc, ◌+◌, ◌-◌, ◌<◌, ◌≤◌, Bool, true, false, nat_lt, List, [], ◌∷◌, ◌++◌, length, get_or, Option, None, Some, Result, Ok, Err, refl, sym, ap, ◌∙◌, arith, append_assoc}
-use Rattle.std.specs.Prelude.{if◌then◌else◌, map, position, option_map, ◌==◌}
+use Rattle.std.proofs.Common.{◌≡◌, ◌≢◌, ℕ, zero, suc, ◌+◌, ◌-◌, ◌<◌, ◌≤◌, Bool, true, false, nat_lt, List, [], ◌∷◌, ◌++◌, length, get_or, Option, None, Some, Result, Ok, Err, refl, sym, ap, ◌∙◌, arith}
+use Rattle.std.specs.Prelude.{if◌then◌else◌, map, ◌==◌}
 use Rattle.std.specs.List.{position_or_len}
 use Rattle.std.specs.List.Sorted.{IsBinarySearchResult, IsStrictlyIncreasing}
 use Rattle.std.specs.Ordering.{nat_cmp}
@@ -9,8 +9,8 @@ use Rattle.std.proofs.lemmas.List.{get_or-map, length-map}
 use Rattle.std.proofs.lemmas.List.Sums.{position_or_len_is}
 use Rattle.std.proofs.lemmas.List.Sorted.{searched}
 use Rattle.elf_model.specs.Archive.{is_name_table}
-use Rattle.elf_model.specs.LinkArchives.{LinkMember, LinkMembers, link_members, link_member_at, name_table, no_member}
-use Rattle.elf_resolve.proofs.MemberWalks.{FindsMembers, finds_members}
+use Rattle.elf_model.specs.LinkArchives.{LinkMember, link_members, link_member_at, name_table, no_member}
+use Rattle.elf_resolve.proofs.MemberWalks.{finds_members}
 use Rattle.elf_resolve.specs.Taken.{header_of}
 
 -- among numbers that strictly ascend, each is below those after it

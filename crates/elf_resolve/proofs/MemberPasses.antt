@@ -1,21 +1,17 @@
 -- A walk over the members of an archive so far, and what its end says.
-use Rattle.std.proofs.Common.{◌≡◌, ◌==◌, ◌&&◌, add-zero, ℕ, zero, suc, ◌+◌, ◌-◌, ◌%◌, ◌^◌, ◌<◌, ◌≤◌, Bool, true, false, nat_lt, List, [], ◌∷◌, ◌++◌, length, Option, None, Some, Result, Ok, Err, refl, sym, ap, subst, ◌∙◌, arith, append_assoc}
+use Rattle.std.proofs.Common.{◌≡◌, ◌==◌, ◌&&◌, add-zero, ℕ, ◌+◌, ◌<◌, ◌≤◌, Bool, true, false, List, [], ◌∷◌, ◌++◌, length, Option, None, Some, Result, Ok, Err, refl, sym, ap, subst, ◌∙◌, arith, append_assoc}
 use Rattle.std.specs.Prelude.{if◌then◌else◌, map, option_map}
-use Rattle.std.proofs.lemmas.Bool.Decides.{nat_tests}
 use Rattle.std.proofs.lemmas.List.{append-nil, map-append}
 use Rattle.elf_archive.specs.Members.{names_passed}
-use Rattle.elf_model.specs.Archive.{FileRange, archive_checks, is_name_table, member_data, padded_end}
+use Rattle.elf_model.specs.Archive.{FileRange, is_name_table, member_data, padded_end}
 use Rattle.elf_model.specs.Bytes.{field, slice}
-use Rattle.elf_model.specs.Checks.{first_refusal}
-use Rattle.elf_model.specs.LinkArchives.{LinkMember, LinkMembers, link_members, link_members_from, members_refusal, name_table, with_link_member}
+use Rattle.elf_model.specs.LinkArchives.{LinkMember, LinkMembers, link_members, link_members_from, name_table}
 use Rattle.elf_model.specs.LinkSymbols.{as_any}
 use Rattle.elf_model.specs.declared.causes.Cause.{Cause}
-use Rattle.elf_model.specs.declared.causes.Refusal.{Refusal}
-use Rattle.elf_model.specs.declared.link_states.LinkRefusal.{LinkRefusal}
 use Rattle.elf_model.proofs.Slices.{field-slice}
 use Rattle.elf_resolve.specs.MemberExtents.{ReadMemberHeader, member_refused}
-use Rattle.elf_resolve.specs.MemberWalks.{PassedMembers, PassesMembers}
-use Rattle.elf_resolve.specs.Taken.{IsLinkFault, WalkedMembers, WalksMembers, data_of, header_of}
+use Rattle.elf_resolve.specs.MemberWalks.{PassedMembers}
+use Rattle.elf_resolve.specs.Taken.{IsLinkFault, data_of, header_of}
 use Rattle.elf_resolve.specs.declared.link_faults.LinkFault.{LinkFault}
 use Rattle.elf_resolve.proofs.LinkFaultLaws.{fault_of_any}
 use Rattle.elf_resolve.proofs.MemberWalks.{fewer_by_one, from_cut, from_end, from_member, one_fewer}

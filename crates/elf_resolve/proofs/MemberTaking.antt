@@ -1,5 +1,5 @@
 -- A member of a known archive: where it is, its table of names, and what is taken of it.
-use Rattle.std.proofs.Common.{◌≡◌, ◌==◌, ◌&&◌, ◌||◌, add-zero, ℕ, zero, suc, ◌+◌, ◌-◌, ◌<◌, ◌≤◌, ◌^◌, Bool, true, false, nat_lt, nat_le, List, [], ◌∷◌, length, get_or, drop, take, Option, None, Some, Result, Ok, Err, refl, sym, ap, subst, ◌∙◌, arith}
+use Rattle.std.proofs.Common.{◌≡◌, ◌==◌, ◌&&◌, ◌||◌, add-zero, ℕ, zero, suc, ◌+◌, ◌-◌, ◌<◌, ◌≤◌, Bool, true, false, nat_lt, nat_le, List, [], ◌∷◌, length, get_or, Option, None, Some, Result, Ok, Err, refl, sym, ap, subst, ◌∙◌, arith}
 use Rattle.std.specs.Prelude.{IfSome, if◌then◌else◌, map, not, option_map}
 use Rattle.std.proofs.lemmas.Bool.Decides.{nat_tests}
 use Rattle.elf_archive.specs.Members.{IsInBounds}
@@ -23,7 +23,7 @@ use Rattle.elf_source.specs.Source.{CountedState, RangeParent}
 use Rattle.elf_model.proofs.Slices.{field-slice}
 use Rattle.elf_resolve.proofs.MemberPasses.{table_by}
 use Rattle.elf_resolve.proofs.LinkFaultLaws.{fault_of_any}
-use Rattle.elf_resolve.proofs.MemberOffsets.{header_is, members_rise}
+use Rattle.elf_resolve.proofs.MemberOffsets.{header_is}
 use Rattle.elf_resolve.proofs.MemberWalks.{data_after_header, data_within_file, finds_members}
 
 -- ALL BYTES of the file of a range, and a part of them

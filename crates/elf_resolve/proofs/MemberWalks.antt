@@ -1,12 +1,10 @@
 -- The members of an archive, one after the other: each lies within the file, and their headers
 -- ascend.
-use Rattle.std.proofs.Common.{◌≡◌, ℕ, zero, suc, ◌+◌, ◌-◌, ◌%◌, ◌<◌, ◌≤◌, Bool, true, false, nat_lt, List, [], ◌∷◌, ◌++◌, length, get_or, Option, None, Some, Result, Ok, Err, refl, sym, ap, ◌∙◌, arith, append_assoc}
-use Rattle.std.specs.Prelude.{if◌then◌else◌, map, position, option_map, ◌==◌}
-use Rattle.std.specs.List.{All}
+use Rattle.std.proofs.Common.{◌≡◌, ℕ, zero, suc, ◌+◌, ◌-◌, ◌<◌, ◌≤◌, Bool, true, false, nat_lt, List, [], ◌∷◌, length, get_or, Option, None, Some, Result, Ok, Err, refl, ap, arith}
+use Rattle.std.specs.Prelude.{if◌then◌else◌}
 use Rattle.std.proofs.lemmas.Bool.Decides.{nat_tests}
-use Rattle.std.proofs.lemmas.Grind.{common_steps}
-use Rattle.elf_model.specs.Archive.{FileRange, data_after, is_name_table, member_data, member_size, name_field, name_in_data, padded_end, parsed_member_size}
-use Rattle.elf_model.specs.LinkArchives.{LinkMember, LinkMembers, link_members, link_members_from, link_member_at, name_table, no_member, with_link_member}
+use Rattle.elf_model.specs.Archive.{FileRange, data_after, member_data, member_size, name_field, name_in_data, padded_end, parsed_member_size}
+use Rattle.elf_model.specs.LinkArchives.{LinkMembers, link_members, link_members_from, no_member, with_link_member}
 use Rattle.elf_model.specs.declared.causes.Cause.{Cause}
 use Rattle.elf_model.specs.declared.causes.Cause.TheVariants.{MemberCut}
 use Rattle.elf_model.specs.declared.causes.Refusal.{Refusal}

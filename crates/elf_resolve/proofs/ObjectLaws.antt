@@ -1,38 +1,30 @@
 -- Headers and tables of an object, and its first refusal.
-use Rattle.std.proofs.Common.{◌≡◌, ℕ, ◌+◌, ◌*◌, ◌<◌, ◌≤◌, ◌^◌, ◌==◌, Bool, true, false, List, ◌++◌, length, max, min, nat_lt, take, ◌⊎◌, inl, inr, refl, sym, ap, subst, ◌∙◌, arith}
-use Rattle.std.specs.Prelude.{Option, None, Some, Result, Ok, Err, IsOk}
+use Rattle.std.proofs.Common.{◌≡◌, ℕ, ◌+◌, ◌*◌, ◌<◌, ◌≤◌, ◌^◌, Bool, true, false, List, length, take, inl, inr, refl, sym, ap, subst, ◌∙◌, arith}
+use Rattle.std.specs.Prelude.{Option, None, Some, Ok, Err, IsOk}
 use Rattle.std.proofs.lemmas.Bool.{cases_lt}
 use Rattle.std.proofs.lemmas.Bool.Decides.{nat_tests}
 use Rattle.std.proofs.lemmas.Grind.{common_steps}
-use Rattle.elf_model.specs.Budget.{IsBudgetRefusal}
 use Rattle.elf_model.specs.Bytes.{slice}
-use Rattle.elf_model.specs.Checks.{Check, early_checks, has_section_names, first_refusal, header_checks, load_checks, section_name_checks}
-use Rattle.elf_model.specs.LinkSymbols.{as_any, object_refusal, symbol_table_in, table_checks_in}
-use Rattle.elf_model.specs.Numbers.{ET_REL}
-use Rattle.elf_model.specs.Records.{e_phnum, e_shnum, e_shstrndx, section_at, sh_info, sh_offset, sh_size}
-use Rattle.elf_model.specs.Tables.{SYMBOL_SIZE, linked_at, section_bytes, strings_of, symbol_table_checks}
-use Rattle.elf_model.specs.declared.causes.Cause.TheVariants as causes
-use Rattle.elf_model.specs.declared.causes.Refusal.{Refusal}
-use Rattle.elf_model.specs.declared.link_states.LinkCause.TheVariants as cause
+use Rattle.elf_model.specs.Checks.{Check, has_section_names, first_refusal}
+use Rattle.elf_model.specs.LinkSymbols.{symbol_table_in, table_checks_in}
+use Rattle.elf_model.specs.Records.{e_shstrndx, section_at, sh_info, sh_offset, sh_size}
+use Rattle.elf_model.specs.Tables.{section_bytes}
 use Rattle.elf_model.specs.declared.link_states.LinkRefusal.{LinkRefusal}
-use Rattle.elf_model.proofs.BudgetLaws.{is_budget_fault}
-use Rattle.elf_model.proofs.CheckSteps.{first_refusal-none, first_refusal-some}
 use Rattle.elf_model.proofs.Slices.{slice-size}
-use Rattle.elf_table.specs.Prelude.{HeaderRead, HoldsSectionHeaders, LoadedAs, LoadedFile, RefusedBy, StoreState, StringTableRange, SymbolTableInBounds, TableRange, names_at, section_names, slots_of, symbols_at}
+use Rattle.elf_table.specs.Prelude.{RefusedBy, StringTableRange, TableRange, names_at, section_names, symbols_at}
 use Rattle.elf_table.specs.declared.fault.Fault.{Fault}
 use Rattle.elf_table.specs.declared.fault.Fault.TheVariants as table
-use Rattle.elf_table.proofs.RelocationLaws.{symbols-fail, symbols-pass}
+use Rattle.elf_table.proofs.RelocationLaws.{symbols-pass}
 use Rattle.elf_resolve.specs.LinkFaults.{fault_of_table}
-use Rattle.elf_resolve.specs.ObjectParts.{ReadSymbols, ReadTables, ReadsFound, as_any_refusal, kind_or, kind_refusal_of, link_header_refusal}
+use Rattle.elf_resolve.specs.ObjectParts.{ReadSymbols, ReadTables, ReadsFound, as_any_refusal}
 use Rattle.elf_resolve.specs.ObjectTables.{HoldsNames, HoldsSectionNames, HoldsSymbols}
 use Rattle.elf_resolve.specs.StringBuffers.{HoldsText, ReadText, TableTexts}
 use Rattle.elf_resolve.specs.Taken.{IsLinkFault}
 use Rattle.elf_resolve.specs.declared.link_faults.LinkFault.{LinkFault}
-use Rattle.elf_resolve.specs.declared.object.ObjectTables.{ObjectTables}
 use Rattle.elf_resolve.specs.declared.object.SymbolRows.{SymbolRows}
 use Rattle.elf_resolve.specs.declared.string_buffer.HeldText.{HeldText}
-use Rattle.elf_resolve.proofs.LinkFaultLaws.{fault_of_any, fault_of_part}
-use Rattle.elf_resolve.proofs.StringBufferLaws.{held_size, holds_appended, holds_kept, holds_read}
+use Rattle.elf_resolve.proofs.LinkFaultLaws.{fault_of_any}
+use Rattle.elf_resolve.proofs.StringBufferLaws.{holds_appended, holds_kept, holds_read}
 
 -- A CHECK REFUSES
 pub table_refused : (checks : List Check) (fault : Fault) → RefusedBy checks fault → IsLinkFault (as_any_refusal (first_refusal checks)) (fault_of_table fault)

@@ -1,13 +1,12 @@
 -- The first symbol of a name in an object.
-use Rattle.std.proofs.Common.{◌≡◌, ℕ, zero, suc, ◌+◌, ◌-◌, ◌<◌, ◌≤◌, ◌==◌, Bool, true, false, List, [], ◌∷◌, ◌++◌, length, take, drop, refl, sym, ap, ◌∙◌, arith}
+use Rattle.std.proofs.Common.{◌≡◌, ℕ, suc, ◌+◌, ◌-◌, ◌<◌, ◌≤◌, ◌==◌, Bool, true, false, List, [], ◌∷◌, ◌++◌, length, take, drop, refl, sym, ap, ◌∙◌, arith}
 use Rattle.std.specs.Prelude.{Option, None, Some, Result, Ok, Err, ◌&&◌, bytes_eq, if◌then◌else◌}
-use Rattle.std.proofs.lemmas.Bool.{false≢true}
 use Rattle.std.proofs.lemmas.List.{append_assoc}
 use Rattle.elf_model.specs.LinkPasses.{name_with_default}
 use Rattle.elf_model.specs.LinkSymbols.{defines_from, defines_if, is_data_definition, is_global, is_that, link_name, names_symbol, refused_at, symbol_table_in}
 use Rattle.elf_model.specs.Names.{DisplayedName, shown}
 use Rattle.elf_model.specs.Names.DisplayedName.{Whole, Cut}
-use Rattle.elf_model.specs.Records.{section_at, sh_info, st_name}
+use Rattle.elf_model.specs.Records.{section_at, st_name}
 use Rattle.elf_model.specs.Tables.{SYMBOL_SIZE, entry_at, entry_count, strings_of}
 use Rattle.elf_model.specs.declared.causes.Cause.{Cause}
 use Rattle.elf_model.specs.declared.link_states.LinkCause.TheVariants.{Refused}

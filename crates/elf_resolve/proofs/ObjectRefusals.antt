@@ -1,9 +1,9 @@
 -- The first refusal of an object: of its header, its section headers or its symbol table.
-use Rattle.std.proofs.Common.{◌≡◌, ℕ, ◌+◌, ◌<◌, ◌≤◌, ◌≢◌, Bool, true, false, List, ◌++◌, length, max, min, nat_lt, ◌⊎◌, inl, inr, refl, sym, ap, ◌∙◌, arith}
-use Rattle.std.specs.Prelude.{Option, None, Some, IsSome, Result, Ok, Err}
+use Rattle.std.proofs.Common.{◌≡◌, ℕ, ◌≤◌, Bool, false, List, ◌++◌, length, max, min, nat_lt, ◌⊎◌, inl, inr, refl, sym, ap, ◌∙◌, arith}
+use Rattle.std.specs.Prelude.{Option, None, Some, IsSome, Err}
 use Rattle.std.proofs.lemmas.Bool.Decides.{nat_tests}
 use Rattle.elf_model.specs.Budget.{IsBudgetRefusal}
-use Rattle.elf_model.specs.Checks.{Check, HeaderCounts, counts_in, early_checks, early_checks_of, first_refusal, header_checks, load_checks, section_name_checks}
+use Rattle.elf_model.specs.Checks.{HeaderCounts, counts_in, early_checks, early_checks_of, first_refusal, header_checks, load_checks, section_name_checks}
 use Rattle.elf_model.specs.LinkSymbols.{as_any, kind_refusal, object_defines, defines_if, object_refusal, symbol_table_in, table_checks_in}
 use Rattle.elf_model.specs.Numbers.{ET_REL}
 use Rattle.elf_model.specs.Records.{e_phnum, e_shnum}
@@ -13,11 +13,11 @@ use Rattle.elf_model.proofs.BudgetLaws.{is_budget_fault}
 use Rattle.elf_model.proofs.CheckSteps.{first_refusal-none, first_refusal-some}
 use Rattle.elf_record.specs.Ehdr.{IsEhdr}
 use Rattle.elf_record.specs.declared.ehdr.Ehdr.{Ehdr}
-use Rattle.elf_table.specs.Prelude.{LoadedAs, LoadedFile, StoreState, slots_of}
+use Rattle.elf_table.specs.Prelude.{LoadedAs, StoreState, slots_of}
 use Rattle.elf_table.specs.declared.fault.Fault.{Fault}
 use Rattle.elf_table.specs.declared.fault.Fault.TheVariants as table
 use Rattle.elf_resolve.specs.LinkFaults.{fault_of_table}
-use Rattle.elf_resolve.specs.ObjectParts.{as_any_refusal, kind_or, kind_refusal_of, link_header_refusal}
+use Rattle.elf_resolve.specs.ObjectParts.{as_any_refusal, kind_or, link_header_refusal}
 use Rattle.elf_resolve.specs.Taken.{IsLinkFault}
 use Rattle.elf_resolve.specs.declared.link_faults.LinkFault.{LinkFault}
 use Rattle.elf_resolve.proofs.LinkFaultLaws.{fault_of_part}

@@ -1,5 +1,5 @@
 -- Symbols of an object: in the bytes of their table, by their names, and taken.
-use Rattle.std.proofs.Common.{◌≡◌, ℕ, zero, suc, ◌+◌, ◌-◌, ◌*◌, ◌<◌, ◌≤◌, ◌^◌, ◌==◌, min, Bool, true, false, List, [], ◌∷◌, ◌++◌, length, get_or, take, drop, ◌⊎◌, inl, inr, refl, sym, ap, subst, ◌∙◌, arith}
+use Rattle.std.proofs.Common.{◌≡◌, ℕ, suc, ◌+◌, ◌-◌, ◌*◌, ◌<◌, ◌≤◌, ◌^◌, ◌==◌, min, Bool, true, false, List, [], ◌∷◌, ◌++◌, length, get_or, take, drop, ◌⊎◌, inl, inr, refl, sym, ap, subst, ◌∙◌, arith}
 use Rattle.std.specs.Prelude.{Option, None, Some, Result, Ok, Err, IsSome, bytes_eq, if◌then◌else◌, map, not}
 use Rattle.std.proofs.lemmas.Bool.{cases_lt, false≢true}
 use Rattle.std.proofs.lemmas.Bool.Decides.{nat_tests}
@@ -25,7 +25,7 @@ use Rattle.elf_resolve.specs.KeyTables.{KeyList}
 use Rattle.elf_resolve.specs.ObjectSymbols.{HoldsSome, NamesUse, TakesObjectSymbols, TookRows, default_by, is_reference_role, use_if}
 use Rattle.elf_resolve.specs.ObjectTables.{HoldsFirstSymbols, HoldsSymbols}
 use Rattle.elf_resolve.specs.StringBuffers.{FindsText, HoldsText, JoinedTexts, SplitName, TableTexts}
-use Rattle.elf_resolve.specs.Symbols.{TookSymbol, TookSymbols}
+use Rattle.elf_resolve.specs.Symbols.{TookSymbol}
 use Rattle.elf_resolve.specs.Taken.{IsLinkFault}
 use Rattle.elf_resolve.specs.declared.link_faults.LinkFault.{LinkFault}
 use Rattle.elf_resolve.specs.declared.link_faults.LinkFault.TheVariants as fault

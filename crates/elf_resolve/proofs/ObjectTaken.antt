@@ -1,21 +1,19 @@
 -- An object is taken by its parts, up to the first refusal.
-use Rattle.std.proofs.Common.{◌≡◌, ℕ, List, [], length, take, refl, sym, ap, ◌∙◌}
+use Rattle.std.proofs.Common.{◌≡◌, ℕ, List, length, take, refl, ap, ◌∙◌}
 use Rattle.std.specs.Prelude.{Bool, Option, None, Some, Result, Ok, Err, map}
 use Rattle.elf_model.specs.Checks.{first_refusal}
 use Rattle.elf_model.specs.LinkArchives.{refusal_of}
 use Rattle.elf_model.specs.LinkKeys.{symbols_taken}
-use Rattle.elf_model.specs.LinkObjects.{LinkObject, NamedSection, ObjectSymbol, SectionGroup, groups_taken, object_taken, sections_noted, symbol_without}
+use Rattle.elf_model.specs.LinkObjects.{NamedSection, ObjectSymbol, SectionGroup, groups_taken, object_taken, sections_noted, symbol_without}
 use Rattle.elf_model.specs.LinkSymbols.{groups_from, object_by, object_of, object_refusal, sections_from, symbol_table_in, symbols_if, table_checks_in}
 use Rattle.elf_model.specs.Records.{e_shnum, section_at}
 use Rattle.elf_model.specs.declared.link_states.LinkRefusal.{LinkRefusal}
-use Rattle.elf_record.specs.Ehdr.{IsEhdr}
 use Rattle.elf_table.specs.Prelude.{HoldsSectionHeaders, LoadedFile, StoreState}
 use Rattle.elf_resolve.specs.KeyTables.{KeyList}
 use Rattle.elf_resolve.specs.ObjectParts.{as_any_refusal}
 use Rattle.elf_resolve.specs.ObjectSymbols.{TakesObjectSymbols}
 use Rattle.elf_resolve.specs.ObjectTables.{HoldsObjectSymbols, HoldsSectionNames, HoldsTables}
-use Rattle.elf_resolve.specs.Objects.{TakesLoaded, TookLoaded, loaded_refusal, object_parts, refused_before}
-use Rattle.elf_resolve.specs.Passing.{TookObject}
+use Rattle.elf_resolve.specs.Objects.{TakesLoaded, loaded_refusal, object_parts, refused_before}
 use Rattle.elf_resolve.specs.SectionGroups.{DroppedGroups, NotedSections, none_dropped}
 use Rattle.elf_resolve.specs.Taken.{IsLinkFault, TakesObject}
 use Rattle.elf_resolve.specs.declared.link_faults.LinkFault.{LinkFault}

@@ -1,6 +1,6 @@
 -- The groups of an object and the names of its sections: what each section adds.
-use Rattle.std.proofs.Common.{◌≡◌, ℕ, zero, suc, ◌+◌, ◌-◌, ◌*◌, ◌/◌, ◌<◌, ◌≤◌, ◌^◌, ◌==◌, Bool, true, false, ◌&&◌, ◌||◌, List, [], ◌∷◌, ◌++◌, length, take, drop, get_or, refl, ap, ◌∙◌, sym, subst, arith, inl, inr, append_assoc, bytes_eq, bit_and}
-use Rattle.std.specs.Prelude.{Option, None, Some, Result, Ok, Err, not}
+use Rattle.std.proofs.Common.{◌≡◌, ℕ, zero, suc, ◌+◌, ◌-◌, ◌*◌, ◌/◌, ◌<◌, ◌≤◌, ◌==◌, Bool, true, false, ◌&&◌, List, [], ◌∷◌, ◌++◌, length, take, drop, refl, ap, ◌∙◌, sym, subst, arith, append_assoc, bytes_eq, bit_and}
+use Rattle.std.specs.Prelude.{Option, None, Some, Result, Ok, Err}
 use Rattle.std.proofs.lemmas.Bool.Decides.{nat_tests}
 use Rattle.std.proofs.lemmas.List.{drop-drop}
 use Rattle.elf_model.specs.Bytes.{field, number}
@@ -17,7 +17,7 @@ use Rattle.elf_resolve.specs.StringBuffers.{FindsText, HoldsText}
 use Rattle.elf_resolve.specs.declared.link_faults.LinkFault.{LinkFault}
 use Rattle.elf_resolve.specs.declared.link_faults.LinkFault.TheVariants.{Refused, Read, Open, Memory}
 use Rattle.elf_resolve.specs.declared.section_groups.Dropped.{Dropped}
-use Rattle.elf_resolve.specs.declared.section_groups.Dropped.TheVariants.{Nothing, Section, Words}
+use Rattle.elf_resolve.specs.declared.section_groups.Dropped.TheVariants.{Words}
 use Rattle.elf_resolve.specs.declared.string_buffer.HeldText.{HeldText}
 use Rattle.elf_table.specs.Load.{HoldsSectionHeaders, LoadedFile, section_place}
 use Rattle.elf_table.specs.Store.{StoreState}

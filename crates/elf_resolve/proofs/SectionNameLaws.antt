@@ -1,14 +1,12 @@
 -- The names of sections that are noted, one section after the other.
-use Rattle.std.proofs.Common.{◌≡◌, ℕ, zero, suc, ◌+◌, ◌-◌, ◌<◌, ◌≤◌, ◌==◌, Bool, true, false, List, [], ◌∷◌, ◌++◌, get_or, refl, ap, ◌∙◌, sym, subst, append_assoc, arith, inl, inr}
-use Rattle.std.specs.Prelude.{Option, None, Some, Result, Ok, Err, if◌then◌else◌}
+use Rattle.std.proofs.Common.{◌≡◌, ℕ, suc, ◌+◌, ◌-◌, ◌<◌, ◌≤◌, ◌==◌, Bool, true, false, List, [], ◌∷◌, ◌++◌, refl, ap, ◌∙◌, sym, arith, inr}
+use Rattle.std.specs.Prelude.{Ok, Err, if◌then◌else◌}
 use Rattle.std.specs.List.{list_any}
-use Rattle.std.proofs.lemmas.List.{append-nil}
 use Rattle.elf_model.specs.LinkArchives.{refusal_of}
 use Rattle.elf_model.specs.LinkKeys.{LinkKeys}
-use Rattle.elf_model.specs.LinkObjects.{NamedSection, is_dropped, name_noted, section_noted, sections_noted}
+use Rattle.elf_model.specs.LinkObjects.{NamedSection, name_noted, section_noted, sections_noted}
 use Rattle.elf_model.specs.LinkSymbols.{and_then, followed, is_identifier, section_link_name, section_named, sections_from}
 use Rattle.elf_model.specs.Records.{e_shnum, section_at}
-use Rattle.elf_model.specs.declared.link_states.LinkRefusal.{LinkRefusal}
 use Rattle.elf_resolve.specs.KeyTables.{KeyList, NotedSection}
 use Rattle.elf_resolve.specs.SectionGroups.{FindsSectionName, NotedName, NotedSections, named_sections}
 use Rattle.elf_resolve.specs.Taken.{IsLinkFault}

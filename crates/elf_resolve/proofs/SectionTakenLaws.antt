@@ -1,24 +1,22 @@
 -- What a section adds to the groups that are taken: its group, itself, or nothing.
-use Rattle.std.proofs.Common.{◌≡◌, ℕ, ◌+◌, ◌-◌, ◌*◌, ◌/◌, ◌<◌, ◌≤◌, ◌==◌, Bool, true, false, ◌&&◌, List, [], ◌∷◌, ◌++◌, length, take, drop, refl, ap, ◌∙◌, sym, subst, bit_and, arith, inl, inr}
+use Rattle.std.proofs.Common.{◌≡◌, ℕ, ◌+◌, ◌-◌, ◌/◌, ◌≤◌, ◌==◌, Bool, true, false, ◌&&◌, List, [], ◌∷◌, length, take, drop, refl, ap, ◌∙◌, sym, subst, bit_and, arith, inr}
 use Rattle.std.specs.Prelude.{Option, None, Some, Result, Ok, Err, if◌then◌else◌, nat_lt, not}
 use Rattle.std.proofs.lemmas.List.{length-drop, length-take}
 use Rattle.elf_model.specs.Bytes.{field, slice}
-use Rattle.elf_model.specs.Checks.{first_refusal}
 use Rattle.elf_model.specs.LinkArchives.{refusal_of}
-use Rattle.elf_model.specs.LinkKeys.{entered, entry_named_as, key_index}
-use Rattle.elf_model.specs.LinkObjects.{SectionGroup, groups_taken, is_kept}
-use Rattle.elf_model.specs.LinkSymbols.{comdat_group, group_checks, group_in, group_named, group_sections, groups_at, is_comdat, is_link_once, section_link_name, signature_of, words_in}
+use Rattle.elf_model.specs.LinkObjects.{SectionGroup}
+use Rattle.elf_model.specs.LinkSymbols.{comdat_group, group_in, group_named, group_sections, groups_at, is_comdat, is_link_once, section_link_name, signature_of, words_in}
 use Rattle.elf_model.specs.Records.{section_at, sh_offset, sh_size, sh_type}
 use Rattle.elf_model.specs.Tables.{section_bytes}
 use Rattle.elf_model.specs.declared.link_states.LinkRefusal.{LinkRefusal}
 use Rattle.elf_resolve.specs.KeyTables.{KeptGroup, KeyList}
-use Rattle.elf_resolve.specs.SectionGroups.{FindsGroup, FindsSectionName, FoundGroup, HoldsDropped, TookGroups, TookSection, is_one_kept, none_dropped, sections_of_words}
+use Rattle.elf_resolve.specs.SectionGroups.{FindsGroup, FindsSectionName, FoundGroup, HoldsDropped, TookSection, is_one_kept, sections_of_words}
 use Rattle.elf_resolve.specs.StringBuffers.{HoldsText, ReadText, TableTexts}
 use Rattle.elf_resolve.specs.Taken.{IsLinkFault}
 use Rattle.elf_resolve.specs.declared.link_faults.LinkFault.{LinkFault}
 use Rattle.elf_resolve.specs.declared.link_faults.LinkFault.TheVariants.{Refused, Read, Open, Memory}
 use Rattle.elf_resolve.specs.declared.section_groups.Dropped.{Dropped}
-use Rattle.elf_resolve.specs.declared.section_groups.Dropped.TheVariants.{Nothing, Section, Words}
+use Rattle.elf_resolve.specs.declared.section_groups.Dropped.TheVariants.{Nothing}
 use Rattle.elf_resolve.specs.declared.section_groups.GroupInFile.{GroupInFile}
 use Rattle.elf_resolve.specs.declared.string_buffer.HeldText.{HeldText}
 use Rattle.elf_resolve.specs.ObjectTables.{HoldsObjectSymbols, HoldsSectionNames, HoldsTables}

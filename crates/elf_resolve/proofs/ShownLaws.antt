@@ -4,8 +4,7 @@ use Rattle.std.specs.Prelude.{if◌then◌else◌}
 use Rattle.std.specs.List.{concat, list_any, slice_get}
 use Rattle.elf_model.specs.LinkArchives.{link_cause_word}
 use Rattle.elf_model.specs.LinkKeys.{LinkKeys}
-use Rattle.elf_model.specs.LinkLines.{FileNames, LinkOutput, file_front, is_missing, is_unresolved, link_fails, name_of_row, reason_front}
-use Rattle.elf_model.specs.LinkInputs.{Linking}
+use Rattle.elf_model.specs.LinkLines.{FileNames, file_front, is_missing, is_unresolved, link_fails, name_of_row, reason_front}
 use Rattle.elf_model.specs.Lines.{fault_line, named_line}
 use Rattle.elf_model.specs.Names.{DisplayedName}
 use Rattle.elf_model.specs.Names.DisplayedName.{Whole}

@@ -1,6 +1,6 @@
 -- What a member that is taken does to keys, and whether a member is a file.
 use Rattle.std.proofs.Common.{◌≡◌, ℕ, List, Bool, true, false, get_or, refl, sym, ap, subst, ◌∙◌}
-use Rattle.std.specs.Prelude.{OnOk, Option, None, Some, Result, Ok, Err, not, ◌||◌}
+use Rattle.std.specs.Prelude.{OnOk, Some, Result, Ok, Err, not, ◌||◌}
 use Rattle.std.specs.List.{slice_get}
 use Rattle.std.proofs.lemmas.Option.{get_or_from_slice_get}
 use Rattle.elf_model.specs.Archive.{is_name_table}

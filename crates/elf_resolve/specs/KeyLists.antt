@@ -1,5 +1,5 @@
 -- The lists by keys of the entries of indexes, and of the further definitions.
-use Rattle.std.specs.Prelude.{◌≡◌, ℕ, ◌+◌, ◌*◌, ◌≤◌, ◌==◌, if◌then◌else◌, List, [], ◌∷◌, length}
+use Rattle.std.specs.Prelude.{◌≡◌, ℕ, ◌+◌, ◌≤◌, ◌==◌, if◌then◌else◌, List, [], ◌∷◌}
 use Rattle.elf_model.specs.declared.link_states.FurtherDefinition.{FurtherDefinition}
 use Rattle.elf_model.specs.declared.link_states.IndexEntry.{IndexEntry}
 use Rattle.elf_resolve.specs.KeyChains.{ChainTable, HasLists, LIST_END}

@@ -1,8 +1,7 @@
 -- The members of an archive as objects, if its file is known.
 use Rattle.std.specs.Prelude.{ℕ, ◌≡◌, ◌<◌, ◌||◌, nat_le, if◌then◌else◌, not, false, Bool, List, [], length, get_or, map, Option, None, Some, Result, Ok, Err, option_map}
-use Rattle.elf_archive.specs.Members.{extent_of_names}
 use Rattle.elf_model.specs.Archive.{FileRange, is_name_table}
-use Rattle.elf_model.specs.LinkArchives.{LinkFiles, LinkMember, is_archive_index, link_members, member_bytes, member_refusal, members_as_objects, members_refusal, name_table, no_member, or_empty, refusal_of}
+use Rattle.elf_model.specs.LinkArchives.{LinkFiles, is_archive_index, link_members, member_bytes, member_refusal, members_as_objects, members_refusal, name_table, no_member, or_empty, refusal_of}
 use Rattle.elf_model.specs.LinkPasses.{ArchiveMembers}
 use Rattle.elf_model.specs.LinkSymbols.{object_of}
 use Rattle.elf_resolve.specs.KeyTables.{KeyList}
@@ -10,7 +9,7 @@ use Rattle.elf_resolve.specs.LinkFaults.{MovesWithin}
 use Rattle.elf_resolve.specs.Passing.{TookObject}
 use Rattle.elf_resolve.specs.Taken.{IsLinkFault, data_of, header_of}
 use Rattle.elf_resolve.specs.declared.link_faults.LinkFault.{LinkFault}
-use Rattle.elf_source.specs.Source.{CountedState, RangeParent, SourceState}
+use Rattle.elf_source.specs.Source.{RangeParent, SourceState}
 
 -- the file of all bytes of which a source is a range, if it is known
 abbrev pub whole_file_of : Option RangeParent → Option (List ℕ)

@@ -1,6 +1,5 @@
 -- The names of members by their rows.
 use Rattle.std.specs.Prelude.{ℕ, Bool, false, get_or, ◌≡◌, ◌+◌, ◌^◌, ◌<◌, ◌≤◌, ◌==◌, if◌then◌else◌, List, [], ◌∷◌, ◌++◌, length, map, Option, None, Some, Result, Ok, Err}
-use Rattle.std.specs.List.{All}
 use Rattle.std.specs.List.Sorted.{IsStrictlyIncreasing}
 use Rattle.elf_archive.specs.Members.{extent_of}
 use Rattle.elf_archive.specs.declared.member.FileRange.{FileRange as Place}

@@ -1,5 +1,5 @@
 -- What is read of an object before its groups: its header, its section headers and its tables.
-use Rattle.std.specs.Prelude.{ℕ, ◌≡◌, ◌==◌, ◌++◌, not, if◌then◌else◌, List, Option, None, Some, Result, Ok, Err, option_map}
+use Rattle.std.specs.Prelude.{ℕ, ◌≡◌, ◌==◌, not, if◌then◌else◌, List, Option, None, Some, Result, Ok, Err, option_map}
 use Rattle.elf_model.specs.Checks.{first_refusal, header_checks}
 use Rattle.elf_model.specs.LinkSymbols.{as_any, symbol_table_in, table_checks_in}
 use Rattle.elf_model.specs.Numbers.{EM_X86_64}

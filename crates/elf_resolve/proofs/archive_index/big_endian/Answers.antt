@@ -1,4 +1,4 @@
-use Rattle.std.proofs.Common.{◌≡◌, ◌+◌, ◌*◌, ◌<◌, ◌≤◌, ◌^◌, get_or, length, sym, ◌∙◌, arith}
+use Rattle.std.proofs.Common.{get_or, ◌∙◌, arith}
 use Rattle.elf_resolve.proofs.IndexLaws.{big_all, big_fits, big_more, big_start}
 use Rattle.elf_resolve.proofs.archive_index.big_endian.Goals as goal
 

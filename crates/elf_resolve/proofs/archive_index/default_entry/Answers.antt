@@ -1,4 +1,4 @@
-use Rattle.std.proofs.Common.{◌≡◌, ◌++◌, ◌∷◌, refl}
+use Rattle.std.proofs.Common.{◌++◌, ◌∷◌}
 use Rattle.std.proofs.lemmas.Result.{err_from_is_err_and}
 use Rattle.elf_resolve.proofs.IndexParts.{both_entered}
 use Rattle.elf_resolve.proofs.StringBufferLaws.{holds_joined, holds_kept}

@@ -1,7 +1,7 @@
-use Rattle.std.proofs.Common.{ℕ, ◌≡◌, ◌+◌, ◌-◌, ◌*◌, ◌≤◌, List, length, drop}
+use Rattle.std.proofs.Common.{ℕ, ◌≡◌, List, drop}
 use Rattle.std.specs.Prelude.{map}
 use Rattle.std.specs.List.Sorted.{IsStrictlyIncreasing}
-use Rattle.elf_model.specs.LinkArchives.{LinkMember, index_symbols}
+use Rattle.elf_model.specs.LinkArchives.{LinkMember}
 use Rattle.elf_resolve.specs.ArchiveIndexes.{HoldsIndex}
 use Rattle.elf_resolve.specs.Taken.{header_of}
 use Rattle.elf_resolve.proofs.IndexPasses.{EnteredSoFar}

@@ -1,4 +1,4 @@
-use Rattle.std.proofs.Common.{◌<◌, length, refl, arith}
+use Rattle.std.proofs.Common.{refl, arith}
 use Rattle.elf_resolve.proofs.EntryNames.{ended_name, unended_name}
 use Rattle.elf_resolve.proofs.StringBufferLaws.{held_size}
 use Rattle.elf_resolve.proofs.archive_index.entry_name.Goals as goal

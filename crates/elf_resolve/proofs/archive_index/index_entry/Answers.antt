@@ -1,4 +1,4 @@
-use Rattle.std.proofs.Common.{◌≡◌, ◌+◌, List, ℕ, take, drop, subst}
+use Rattle.std.proofs.Common.{◌+◌, List, ℕ, take, drop, subst}
 use Rattle.std.specs.Prelude.{Some}
 use Rattle.elf_resolve.specs.StringBuffers.{SplitsName}
 use Rattle.elf_resolve.proofs.IndexParts.{default_name_entered}

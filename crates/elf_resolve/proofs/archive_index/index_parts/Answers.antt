@@ -1,4 +1,4 @@
-use Rattle.std.proofs.Common.{◌≡◌, ◌+◌, ◌≤◌, length, inr, sym, ap, ◌∙◌, arith}
+use Rattle.std.proofs.Common.{inr, sym, ap, ◌∙◌}
 use Rattle.std.proofs.lemmas.Result.{err_from_is_err_and}
 use Rattle.elf_archive.specs.Members.{extent_of}
 use Rattle.elf_model.specs.LinkArchives.{refusal_of}

@@ -1,4 +1,4 @@
-use Rattle.std.proofs.Common.{◌≡◌, ◌+◌, ◌-◌, ◌*◌, ◌/◌, ◌<◌, ◌≤◌, length, refl, sym, ap, arith}
+use Rattle.std.proofs.Common.{◌≡◌, ◌+◌, ◌*◌, ◌≤◌, length, refl, ap, arith}
 use Rattle.elf_resolve.proofs.IndexLaws.{enough_for, too_many}
 use Rattle.elf_resolve.proofs.IndexParts.{count_read, parts_held}
 use Rattle.elf_resolve.proofs.StringBufferLaws.{held_size}

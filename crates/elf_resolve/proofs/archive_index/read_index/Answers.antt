@@ -1,10 +1,8 @@
-use Rattle.std.proofs.Common.{◌≡◌, ◌∷◌, [], List, ◌+◌, ◌*◌, ◌<◌, ◌≤◌, ◌-◌, length, drop, sym, ap, subst, ◌∙◌, refl, arith}
-use Rattle.std.specs.Prelude.{Err, map}
-use Rattle.std.specs.List.Sorted.{IsStrictlyIncreasing}
+use Rattle.std.proofs.Common.{◌≡◌, ◌∷◌, [], List, ◌+◌, ◌*◌, ◌<◌, ◌≤◌, length, drop, sym, ap, subst, ◌∙◌, refl, arith}
 use Rattle.std.proofs.lemmas.Result.{err_from_is_err_and}
 use Rattle.elf_model.specs.Archive.{bytes_in}
 use Rattle.elf_model.specs.LinkArchives.{LinkMember, archive_index, index_symbols, link_members, refusal_of}
-use Rattle.elf_resolve.specs.Taken.{IsLinkFault, ReadsIndex, header_of}
+use Rattle.elf_resolve.specs.Taken.{IsLinkFault, ReadsIndex}
 use Rattle.elf_resolve.proofs.IndexParts.{index_answer, none_left, read_by, read_none, some_members, unrefused_small}
 use Rattle.elf_resolve.proofs.MemberOffsets.{members_rise}
 use Rattle.elf_resolve.proofs.archive_index.read_index.Goals as goal

@@ -1,8 +1,6 @@
-use Rattle.std.proofs.Common.{rules, ◌≡◌, ℕ, List, subst, refl, ◌∙◌}
-use Rattle.std.specs.Prelude.{Option, Result, Ok, Err, map}
+use Rattle.std.proofs.Common.{rules, ◌≡◌, ℕ, List, subst, ◌∙◌}
 use Rattle.std.specs.List.Sorted.{IsBinarySearchResult, IsStrictlyIncreasing}
 use Rattle.std.specs.Ordering.{nat_cmp}
-use Rattle.elf_resolve.specs.Taken.{header_of}
 use Rattle.elf_resolve.proofs.MemberOffsets.{found_or_none, member_found}
 use Rattle.elf_resolve.proofs.archives.member_with_header.Goals as goal
 

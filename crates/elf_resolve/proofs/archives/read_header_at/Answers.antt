@@ -1,4 +1,4 @@
-use Rattle.std.proofs.Common.{◌≤◌, ◌-◌, ◌+◌, length, arith}
+use Rattle.std.proofs.Common.{◌≤◌, length, arith}
 use Rattle.elf_resolve.proofs.MemberFaultLaws.{cut_past_end}
 use Rattle.elf_resolve.proofs.archives.read_header_at.Goals as goal
 use Rattle.elf_resolve.proofs.archives.read_header_at.Goals.{then-length-via-then-length, then-length-via-else-length+then-at-length}

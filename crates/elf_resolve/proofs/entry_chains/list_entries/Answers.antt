@@ -1,4 +1,4 @@
-use Rattle.std.proofs.Common.{ℕ, ◌-◌, arith}
+use Rattle.std.proofs.Common.{◌-◌, arith}
 use Rattle.elf_resolve.proofs.KeyListLaws.{entry_more}
 use Rattle.elf_resolve.proofs.entry_chains.list_entries.Goals as goal
 

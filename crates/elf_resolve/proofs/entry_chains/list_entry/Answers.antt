@@ -1,6 +1,5 @@
-use Rattle.std.proofs.Common.{ℕ, ◌+◌, subst, sym, ap, ◌∙◌, arith}
+use Rattle.std.proofs.Common.{subst, arith}
 use Rattle.elf_resolve.specs.KeyChains.{AddsNumber, ChainTable}
-use Rattle.elf_resolve.specs.KeyLists.{ListsEntry}
 use Rattle.elf_resolve.proofs.KeyListLaws.{one_listed, two_listed}
 use Rattle.elf_resolve.proofs.entry_chains.list_entry.Goals as goal
 use Rattle.elf_resolve.proofs.entry_chains.list_entry.Goals.{then-entry, else-entry}

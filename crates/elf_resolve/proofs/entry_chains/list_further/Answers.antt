@@ -1,4 +1,4 @@
-use Rattle.std.proofs.Common.{ℕ, ◌-◌, arith}
+use Rattle.std.proofs.Common.{◌-◌, arith}
 use Rattle.elf_resolve.proofs.KeyListLaws.{further_more}
 use Rattle.elf_resolve.proofs.entry_chains.list_further.Goals as goal
 

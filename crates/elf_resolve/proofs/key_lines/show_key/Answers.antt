@@ -1,8 +1,7 @@
-use Rattle.std.proofs.Common.{sym, ◌∙◌, Ok, Err, List, ℕ, ◌++◌, subst}
+use Rattle.std.proofs.Common.{Err}
 use Rattle.std.specs.List.{concat}
 use Rattle.std.proofs.lemmas.Result.{err_from_is_err_and}
 use Rattle.elf_resolve.specs.KeyLines.{lines_found}
-use Rattle.elf_resolve.specs.LinkTexts.{WritesText}
 use Rattle.elf_resolve.specs.Resolved.{linking_of}
 use Rattle.elf_resolve.proofs.KeyShownLaws.{key_text, writes_as, writes_first, writes_then}
 use Rattle.elf_resolve.proofs.key_lines.show_key.Goals as goal

@@ -1,4 +1,4 @@
-use Rattle.std.proofs.Common.{◌≡◌, ◌<◌, List, ℕ, length, get_or, sym, subst, ◌∙◌, ap, Ok, Err, arith}
+use Rattle.std.proofs.Common.{◌≡◌, ◌<◌, List, ℕ, length, get_or, subst, ◌∙◌, ap, arith}
 use Rattle.std.specs.List.{concat}
 use Rattle.std.proofs.lemmas.Result.{err_from_is_err_and}
 use Rattle.elf_model.specs.LinkLines.{is_unresolved}
@@ -6,7 +6,7 @@ use Rattle.elf_source.specs.Output.{SinkTakes, SinkTakesPrefix, IsOutFault}
 use Rattle.elf_resolve.specs.LinkerNames.{output_of}
 use Rattle.elf_resolve.specs.Resolved.{linking_of}
 use Rattle.elf_resolve.specs.ShownLinks.{key_if_shown}
-use Rattle.elf_resolve.proofs.KeyShownLaws.{AreKeysShown, keys_fail, keys_more}
+use Rattle.elf_resolve.proofs.KeyShownLaws.{keys_fail, keys_more}
 use Rattle.elf_resolve.proofs.key_lines.show_keys.Goals as goal
 
 pub returns-in_err-more-clause-writes : goal.returns-in_err-more-clause-writes

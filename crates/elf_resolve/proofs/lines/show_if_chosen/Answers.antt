@@ -1,4 +1,4 @@
-use Rattle.std.proofs.Common.{sym, ◌∙◌, ap, Ok, Err}
+use Rattle.std.proofs.Common.{sym, ◌∙◌}
 use Rattle.elf_resolve.specs.ShownLinks.{row_shown}
 use Rattle.elf_resolve.proofs.KeyShownLaws.{writes_as}
 use Rattle.elf_resolve.proofs.ShownLaws.{row_chosen, same_file}

@@ -1,7 +1,5 @@
-use Rattle.std.proofs.Common.{sym, ◌∙◌, ap, Ok, Err}
-use Rattle.std.specs.List.{concat}
-use Rattle.std.proofs.lemmas.Result.{err_from_is_err_and}
-use Rattle.elf_resolve.proofs.ShownLaws.{row_alone, row_reasoned}
+use Rattle.std.proofs.Common.{sym, ◌∙◌}
+use Rattle.elf_resolve.proofs.ShownLaws.{row_reasoned}
 use Rattle.elf_resolve.proofs.lines.show_row.Goals as goal
 
 pub returns-in-Some : goal.returns-in-Some

@@ -1,6 +1,5 @@
-use Rattle.std.proofs.Common.{◌<◌, length, sym, ◌∙◌, ap, List, ℕ, arith}
+use Rattle.std.proofs.Common.{◌<◌, length, arith}
 use Rattle.std.proofs.lemmas.Result.{err_from_is_err_and}
-use Rattle.elf_model.specs.declared.link_states.LinkRow.{LinkRow}
 use Rattle.elf_resolve.proofs.ShownLaws.{missing_at, row_fails, row_more, rows_ended}
 use Rattle.elf_resolve.proofs.lines.show_rows.Goals as goal
 

@@ -1,7 +1,6 @@
-use Rattle.std.proofs.Common.{ap, sym, subst, Option, ℕ, arith}
+use Rattle.std.proofs.Common.{sym, subst, Option, ℕ, arith}
 use Rattle.std.proofs.lemmas.Result.{err_from_is_err_and}
 use Rattle.elf_resolve.specs.KeyChains.{IsListFrom}
-use Rattle.elf_resolve.specs.LinkTexts.{IsListShown}
 use Rattle.elf_resolve.proofs.ListShownLaws.{list_begun, list_ended, list_fails, list_more, list_turned}
 use Rattle.elf_resolve.proofs.list_lines.show_further.Goals as goal
 

@@ -1,4 +1,4 @@
-use Rattle.std.proofs.Common.{◌+◌, ◌-◌, ◌<◌, ◌≤◌, length, arith}
+use Rattle.std.proofs.Common.{◌+◌, ◌-◌, arith}
 use Rattle.std.specs.Prelude.{◌/◌}
 use Rattle.elf_resolve.proofs.MemberNameLaws.{half_above, half_below, halfway}
 use Rattle.elf_resolve.proofs.member_names.first_from.Goals as goal

@@ -1,4 +1,4 @@
-use Rattle.std.proofs.Common.{◌≡◌, false, sym, ap, ◌∙◌, arith}
+use Rattle.std.proofs.Common.{false, sym, ap, ◌∙◌, arith}
 use Rattle.elf_resolve.specs.declared.member_names.NamePlace.{NamePlace}
 use Rattle.elf_resolve.proofs.MemberNameLaws.{place_found, place_missing}
 use Rattle.elf_resolve.proofs.member_names.place_of_row.Goals as goal

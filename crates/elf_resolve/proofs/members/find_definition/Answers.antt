@@ -1,9 +1,8 @@
 -- The first refusal of an object, or its first symbol of a name.
-use Rattle.std.proofs.Common.{◌≡◌, sym, ap, ◌∙◌, arith}
+use Rattle.std.proofs.Common.{ap, ◌∙◌}
 use Rattle.std.proofs.lemmas.Result.{err_from_is_err_and}
-use Rattle.elf_model.specs.LinkPasses.{index_name}
 use Rattle.elf_model.specs.LinkSymbols.{object_refusal}
-use Rattle.elf_table.specs.Prelude.{StoreState, slots_of}
+use Rattle.elf_table.specs.Prelude.{StoreState}
 use Rattle.elf_resolve.proofs.LinkFaultLaws.{fault_of_any}
 use Rattle.elf_resolve.proofs.ObjectRefusals.{header_fault, load_fault, object_passes, slots_read, tables_fault}
 use Rattle.elf_resolve.proofs.members.find_definition.Goals as goal

@@ -1,7 +1,6 @@
 -- The symbol of an index has the name of an entry, or not.
-use Rattle.std.proofs.Common.{◌≡◌, true, false, sym, ◌∙◌, arith}
+use Rattle.std.proofs.Common.{◌∙◌, arith}
 use Rattle.elf_model.specs.LinkPasses.{index_name}
-use Rattle.elf_model.specs.LinkSymbols.{names_symbol}
 use Rattle.elf_model.specs.Records.{sh_offset}
 use Rattle.elf_model.specs.Tables.{SYMBOL_SIZE, entry_at, strings_of}
 use Rattle.elf_resolve.proofs.ObjectNameLaws.{definition_none, definition_some, named_as, other_binding}

@@ -1,5 +1,5 @@
 -- The symbol of an index, in a table that is held.
-use Rattle.std.proofs.Common.{◌≡◌, ◌+◌, ◌*◌, true, sym, ap, ◌∙◌, arith}
+use Rattle.std.proofs.Common.{◌≡◌, ◌+◌, ◌*◌, sym, ap, ◌∙◌, arith}
 use Rattle.std.proofs.lemmas.Result.{err_from_is_err_and}
 use Rattle.elf_model.specs.LinkObjects.{is_dropped}
 use Rattle.elf_model.specs.LinkSymbols.{symbol_section, symbol_use}

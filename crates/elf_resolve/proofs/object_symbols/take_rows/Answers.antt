@@ -1,9 +1,8 @@
 -- One symbol more of a table is taken.
-use Rattle.std.proofs.Common.{◌≡◌, List, ℕ, sym, subst, ap, ◌∙◌, arith}
+use Rattle.std.proofs.Common.{sym, subst, ◌∙◌, arith}
 use Rattle.std.proofs.lemmas.Result.{err_from_is_err_and}
 use Rattle.elf_model.specs.Tables.{SYMBOL_SIZE, entry_at}
 use Rattle.elf_resolve.specs.ObjectTables.{HoldsSymbols}
-use Rattle.elf_resolve.specs.ObjectSymbols.{FindsUse, MayNameUse}
 use Rattle.elf_resolve.specs.StringBuffers.{TableTexts}
 use Rattle.elf_resolve.proofs.ObjectSymbolLaws.{rows_all, rows_fault, rows_more}
 use Rattle.elf_resolve.proofs.object_symbols.take_rows.Goals as goal

@@ -1,4 +1,4 @@
-use Rattle.std.proofs.Common.{◌≡◌, ◌≤◌, List, ℕ}
+use Rattle.std.proofs.Common.{◌≡◌, List, ℕ}
 use Rattle.elf_resolve.specs.ObjectSymbols.{TookRows}
 use Rattle.elf_resolve.specs.ObjectTables.{HoldsSymbols}
 use Rattle.elf_resolve.specs.SectionMarks.{MarksDropped}

@@ -1,6 +1,5 @@
 -- A symbol with its name is taken, or is none.
-use Rattle.std.proofs.Common.{sym, ◌∙◌, arith}
-use Rattle.std.specs.Prelude.{Option}
+use Rattle.std.proofs.Common.{sym, ◌∙◌}
 use Rattle.std.proofs.lemmas.Result.{err_from_is_err_and}
 use Rattle.elf_model.specs.LinkArchives.{refusal_of}
 use Rattle.elf_model.specs.LinkSymbols.{link_symbol_at, version_sign_in, with_one_sign}

@@ -1,8 +1,7 @@
-use Rattle.std.proofs.Common.{◌≡◌, ℕ, ◌+◌, ◌<◌, ◌≤◌, List, refl, ap, subst, ◌∙◌, sym, arith}
+use Rattle.std.proofs.Common.{◌<◌, ◌≤◌, refl, ◌∙◌, sym, arith}
 use Rattle.std.proofs.lemmas.Result.{err_from_is_err_and}
 use Rattle.elf_model.specs.Records.{e_shnum}
 use Rattle.elf_source.proofs.ReadsLaws.{KeepsSource-then}
-use Rattle.elf_resolve.specs.ObjectTables.{HoldsTables}
 use Rattle.elf_resolve.proofs.GroupTakenLaws.{forgotten, taken_all, taken_fault, taken_first, taken_more}
 use Rattle.elf_resolve.proofs.section_groups.drop_groups.Goals as goal
 

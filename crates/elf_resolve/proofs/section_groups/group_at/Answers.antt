@@ -1,15 +1,13 @@
-use Rattle.std.proofs.Common.{◌≡◌, ℕ, ◌+◌, ◌<◌, ◌≤◌, List, ap, subst, ◌∙◌, sym, arith}
+use Rattle.std.proofs.Common.{◌≡◌, ap, subst, ◌∙◌, sym}
 use Rattle.std.specs.Prelude.{None, Err}
 use Rattle.std.proofs.lemmas.Result.{err_from_is_err_and}
 use Rattle.elf_model.specs.Checks.{first_refusal}
-use Rattle.elf_model.specs.Records.{section_at, sh_info}
-use Rattle.elf_model.specs.Tables.{SYMBOL_SIZE, entry_count, linked_at}
-use Rattle.elf_model.specs.declared.causes.Cause.TheVariants.{BadLink, SymbolIndex}
+use Rattle.elf_model.specs.Records.{section_at}
+use Rattle.elf_model.specs.declared.causes.Cause.TheVariants.{BadLink}
 use Rattle.elf_model.specs.declared.link_states.LinkCause.TheVariants as cause
 use Rattle.elf_resolve.specs.SectionGroups.{FindsGroup}
 use Rattle.elf_table.specs.Relocations.{RefersTo, RefusedBy}
-use Rattle.elf_table.specs.Tables.{TableRange}
-use Rattle.elf_resolve.proofs.GroupFoundLaws.{all_passes, link_fault, linked_some, linked_within, makes_group, table_fault, words_fault, words_same, words_within}
+use Rattle.elf_resolve.proofs.GroupFoundLaws.{link_fault, linked_some, linked_within, makes_group, table_fault, words_fault, words_same}
 use Rattle.elf_resolve.proofs.SectionGroupLaws.{place-is}
 use Rattle.elf_resolve.proofs.section_groups.group_at.Goals as goal
 

@@ -1,4 +1,4 @@
-use Rattle.std.proofs.Common.{◌≡◌, ◌++◌, ap, subst, ◌∙◌, sym}
+use Rattle.std.proofs.Common.{◌++◌, ap, subst, ◌∙◌, sym}
 use Rattle.elf_resolve.specs.SectionGroups.{sections_of_words}
 use Rattle.elf_resolve.specs.SectionMarks.{MarksDropped}
 use Rattle.elf_resolve.proofs.SectionGroupLaws.{held_words}

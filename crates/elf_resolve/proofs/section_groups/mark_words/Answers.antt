@@ -1,9 +1,8 @@
-use Rattle.std.proofs.Common.{◌≡◌, ℕ, ◌+◌, ◌-◌, ◌*◌, ◌/◌, List, [], ◌∷◌, ◌++◌, drop, length, refl, ap, subst, ◌∙◌, sym, arith}
-use Rattle.std.specs.Prelude.{Option, None, Some}
+use Rattle.std.proofs.Common.{◌≡◌, ◌*◌, ◌/◌, length, refl, subst, arith}
+use Rattle.std.specs.Prelude.{Some}
 use Rattle.elf_model.specs.Bytes.{field}
-use Rattle.elf_model.specs.LinkSymbols.{words_in}
 use Rattle.elf_resolve.specs.SectionMarks.{MarksDropped}
-use Rattle.elf_resolve.proofs.SectionGroupLaws.{word_there, words_marked, words_marked-all, words_marked-more}
+use Rattle.elf_resolve.proofs.SectionGroupLaws.{word_there, words_marked-all, words_marked-more}
 use Rattle.elf_resolve.proofs.section_groups.mark_words.Goals as goal
 use Rattle.elf_resolve.proofs.section_groups.mark_words.Goals.{in-Some, in_default}
 

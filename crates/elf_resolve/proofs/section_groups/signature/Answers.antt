@@ -1,4 +1,3 @@
-use Rattle.std.proofs.Common.{◌∙◌}
 use Rattle.elf_resolve.proofs.SectionTakenLaws.{tables_kept}
 use Rattle.elf_resolve.proofs.section_groups.signature.Goals as goal
 

@@ -1,13 +1,9 @@
-use Rattle.std.proofs.Common.{◌≡◌, ℕ, true, false, List, [], ◌∷◌, refl, ap, subst, ◌∙◌, sym, arith}
+use Rattle.std.proofs.Common.{true, false, refl, ap, ◌∙◌, sym}
 use Rattle.std.proofs.lemmas.Result.{err_from_is_err_and}
-use Rattle.elf_model.specs.LinkArchives.{refusal_of}
-use Rattle.elf_model.specs.LinkSymbols.{groups_at}
 use Rattle.elf_model.specs.Records.{section_at}
 use Rattle.elf_model.specs.Tables.{section_bytes}
-use Rattle.elf_resolve.specs.SectionGroups.{is_one_kept, sections_of_words}
-use Rattle.elf_resolve.specs.StringBuffers.{HoldsText}
+use Rattle.elf_resolve.specs.SectionGroups.{sections_of_words}
 use Rattle.elf_resolve.specs.declared.section_groups.Dropped.TheVariants.{Nothing, Words}
-use Rattle.elf_resolve.proofs.LinkFaultLaws.{fault_of_any}
 use Rattle.elf_resolve.proofs.SectionTakenLaws.{group_fault, group_none, group_one, signature_fault, tables_kept, took_none, took_one, words_held}
 use Rattle.elf_resolve.proofs.StringBufferLaws.{holds_kept}
 use Rattle.elf_resolve.proofs.section_groups.take_group.Goals as goal

@@ -1,6 +1,5 @@
-use Rattle.std.proofs.Common.{◌≡◌, ℕ, ◌+◌, ◌<◌, ◌==◌, Bool, false, List, get_or, ap, subst, ◌∙◌, sym, arith}
+use Rattle.std.proofs.Common.{◌<◌, false, get_or, ap, ◌∙◌, sym, arith}
 use Rattle.std.proofs.lemmas.Result.{err_from_is_err_and}
-use Rattle.std.specs.List.{list_any}
 use Rattle.elf_model.specs.LinkArchives.{refusal_of}
 use Rattle.elf_model.specs.LinkSymbols.{is_identifier}
 use Rattle.elf_resolve.specs.SectionGroups.{named_sections}

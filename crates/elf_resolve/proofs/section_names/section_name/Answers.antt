@@ -1,5 +1,4 @@
 use Rattle.std.proofs.Common.{◌∙◌, subst, arith}
-use Rattle.std.specs.Prelude.{List, ℕ, ◌≡◌}
 use Rattle.elf_model.specs.Records.{section_at}
 use Rattle.elf_resolve.specs.ObjectTables.{HoldsNames, HoldsSectionNames}
 use Rattle.elf_resolve.proofs.SectionGroupLaws.{no_section_names, place-is, section_name-found}

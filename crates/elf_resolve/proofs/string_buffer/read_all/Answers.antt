@@ -1,5 +1,5 @@
 -- One piece of a file's bytes is read more.
-use Rattle.std.proofs.Common.{◌≡◌, ◌∙◌, ◌+◌, ◌-◌, ◌≤◌, List, ℕ, length, take, drop, sym, ap, arith, length-drop, length-take}
+use Rattle.std.proofs.Common.{◌≡◌, ◌∙◌, ◌+◌, ◌-◌, ◌≤◌, List, ℕ, length, take, drop, ap, arith, length-drop, length-take}
 use borrow.Rule.Slice.PartMut.{put_mid, same_len_mid}
 use Rattle.elf_model.specs.Bytes.{slice}
 use Rattle.elf_source.proofs.ReadsLaws.{KeepsSource-then}

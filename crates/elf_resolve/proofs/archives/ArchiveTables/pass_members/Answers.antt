@@ -1,4 +1,4 @@
-use Rattle.std.proofs.Common.{rules, ◌+◌, ◌≤◌, ◌<◌, length, refl, ◌∙◌, arith}
+use Rattle.std.proofs.Common.{rules, ◌≤◌, ◌<◌, length, refl, ◌∙◌, arith}
 use Rattle.std.proofs.lemmas.Result.{err_from_is_err_and}
 use Rattle.elf_archive.specs.Members.{extent_of}
 use Rattle.elf_resolve.proofs.MemberPasses.{passes_begin, passes_cut, passes_end, passes_member}

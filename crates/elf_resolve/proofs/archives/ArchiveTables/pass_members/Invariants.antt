@@ -1,4 +1,4 @@
-use Rattle.std.proofs.Common.{ℕ, ◌≡◌, ◌+◌, ◌-◌, ◌<◌, ◌≤◌, ◌^◌, List, length}
+use Rattle.std.proofs.Common.{ℕ, ◌≡◌, ◌-◌, ◌<◌, ◌^◌, List, length}
 use Rattle.std.specs.Prelude.{Some}
 use Rattle.elf_archive.specs.Members.{extent_of_names}
 use Rattle.elf_source.specs.Prelude.{KeepsSource}

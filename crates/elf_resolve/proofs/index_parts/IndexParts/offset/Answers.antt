@@ -1,4 +1,4 @@
-use Rattle.std.proofs.Common.{◌≡◌, ◌+◌, ◌*◌, ◌≤◌, length, arith}
+use Rattle.std.proofs.Common.{◌≡◌, ◌*◌, arith}
 use Rattle.elf_model.specs.Bytes.{slice}
 use Rattle.elf_resolve.proofs.IndexLaws.{offset_read, place_within}
 use Rattle.elf_resolve.proofs.index_parts.IndexParts.offset.Goals as goal

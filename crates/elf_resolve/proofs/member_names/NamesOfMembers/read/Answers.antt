@@ -1,7 +1,6 @@
-use Rattle.std.proofs.Common.{rules, ◌≡◌, ◌++◌, ◌∷◌, [], List, ℕ, length, map, inl, sym, ap, ◌∙◌, arith}
+use Rattle.std.proofs.Common.{rules, ◌≡◌, ◌++◌, ◌∷◌, [], List, map, inl, ap, ◌∙◌}
 use Rattle.elf_model.specs.ShownNames.{shown_as}
 use Rattle.elf_resolve.specs.MemberNames.{RowName, name_at_place}
-use Rattle.elf_resolve.specs.declared.member_names.NamePlace.{NamePlace}
 use Rattle.elf_resolve.proofs.MemberNameLaws.{name_added, names_kept, places_added}
 use Rattle.elf_resolve.proofs.member_names.NamesOfMembers.read.Goals as goal
 

@@ -1,6 +1,5 @@
 use Rattle.std.proofs.Common.{ap, ◌∙◌, Some}
 use Rattle.elf_model.specs.declared.link_states.KeyEntry.{KeyEntry}
-use Rattle.elf_resolve.specs.LinkerNames.{output_of}
 use Rattle.elf_resolve.proofs.KeyFindLaws.{of_linker, of_section}
 use Rattle.elf_resolve.proofs.resolver.Resolver.is_of_linker.Goals as goal
 

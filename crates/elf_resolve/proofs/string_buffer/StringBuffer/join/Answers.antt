@@ -1,7 +1,7 @@
 -- What is appended is the name, the sign and the version.
-use Rattle.std.proofs.Common.{sym, subst, ap, ◌∙◌, arith}
+use Rattle.std.proofs.Common.{sym, subst, arith}
 use Rattle.elf_resolve.specs.StringBuffers.{HoldsText, TableTexts}
-use Rattle.elf_resolve.proofs.StringBufferLaws.{held_size, joined}
+use Rattle.elf_resolve.proofs.StringBufferLaws.{joined}
 use Rattle.elf_resolve.proofs.string_buffer.StringBuffer.join.Goals as goal
 
 pub returns-clause-joins : goal.returns-clause-joins
