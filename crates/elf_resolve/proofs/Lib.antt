@@ -49,5 +49,6 @@ pub mod LinkedSymbolLaws
 pub mod PlaceLaws
 pub mod OpenedLaws
 pub mod ResolvedLaws
+pub mod TakenMemberLaws
 pub mod TakenLaws
 pub mod StepLaws

@@ -1,15 +1,14 @@
 -- A link as a resolver has it: what reading a file and taking its members make of it.
-use Rattle.std.proofs.Common.{◌≡◌, ◌≢◌, ℕ, zero, suc, ◌+◌, ◌-◌, ◌<◌, ◌≤◌, Bool, true, false, List, [], ◌∷◌, ◌++◌, length, length-append, map, take, drop, get_or, set, add-one, drop-cons, refl, sym, ap, subst, ◌∙◌, ◌⊎◌, inl, inr, eqb, arith}
-use Rattle.std.specs.Prelude.{◌||◌, if◌then◌else◌, OnOk, Option, None, Some, Result, Ok, Err, replicate}
+use Rattle.std.proofs.Common.{◌≡◌, ◌≢◌, ℕ, zero, suc, ◌-◌, ◌≤◌, Bool, true, false, List, [], ◌∷◌, ◌++◌, length, length-append, map, take, drop, set, refl, sym, ap, subst, ◌∙◌, ◌⊎◌, inl, inr, eqb, arith}
+use Rattle.std.specs.Prelude.{Option, None, Some, Ok, replicate}
 use Rattle.std.specs.List.{slice_get}
-use Rattle.std.proofs.lemmas.List.{append-nil, drop_all, length-map, length-replicate, map-append}
+use Rattle.std.proofs.lemmas.List.{append-nil, length-map, length-replicate, map-append}
 use Rattle.std.proofs.lemmas.Bool.Decides.{eqb_tells}
 use Rattle.std.proofs.Math.Seq.{drop-append_seam, take-append_seam}
 use Rattle.elf_archive.specs.Members.{extent_of_names}
 use Rattle.elf_archive.specs.declared.member.FileRange.{FileRange as Place}
-use Rattle.elf_model.specs.Archive.{FileRange, bytes_in, is_name_table}
-use Rattle.elf_model.specs.LinkArchives.{LinkFiles, LinkMember, archive_as, archive_index, archive_input, files_as_inputs, input_of, is_archive_index, link_members, members_as_objects, members_refusal, no_member, object_input, or_empty, or_object, searched_by, whole_members}
-use Rattle.elf_model.specs.LinkInputs.{IndexSymbol, Linking, OpenArchive, archive_again, archive_opened, file_row, index_entered, input_taken, members_taken, with_row, with_taken}
+use Rattle.elf_model.specs.LinkArchives.{LinkFiles, archive_as, archive_index, archive_input, files_as_inputs, input_of, link_members, members_as_objects, members_refusal, object_input, or_object, searched_by, whole_members}
+use Rattle.elf_model.specs.LinkInputs.{IndexSymbol, OpenArchive, archive_again, archive_opened, file_row, index_entered, input_taken, members_taken, with_row, with_taken}
 use Rattle.elf_model.specs.LinkInputs.InputFile.{ObjectFile, SearchedFile, WholeFile, MissingFile}
 use Rattle.elf_model.specs.LinkKeys.{LinkKeys}
 use Rattle.elf_model.specs.LinkObjects.{LinkObject}
@@ -18,22 +17,19 @@ use Rattle.elf_model.specs.LinkSymbols.{object_of}
 use Rattle.elf_model.specs.declared.link_states.IndexEntry.{IndexEntry}
 use Rattle.elf_model.specs.declared.link_states.LinkRow.{LinkRow}
 use Rattle.elf_model.specs.declared.link_states.LinkRowKind.TheVariants.{Archive}
-use Rattle.elf_resolve.specs.LinkMembers.{AreMembersOf, members_by_file}
 use Rattle.elf_resolve.specs.LinkPlaces.{is_new_state}
 use Rattle.elf_resolve.specs.OpenedArchives.{AreDistinctArchives, AreOpened, HasMembers, IsOpenedArchive, IsInputState, SameOutside, archive_in, archive_of_input}
 use Rattle.elf_resolve.specs.Passing.{pass_of}
-use Rattle.elf_resolve.specs.Ranges.{IsRangeOf}
 use Rattle.elf_resolve.specs.Resolved.{elements_in, linking_of, open_archive}
 use Rattle.elf_resolve.specs.ResolvedInputs.{AddedRowOf, EntersIndex, IsArchiveAt, IsLink, KeepsArchives, KeptArchive, OpenedAs, TookInput, TookMembers}
 use Rattle.elf_resolve.specs.Taken.{ReadIndex, WalkedMembers, header_of}
 use Rattle.elf_resolve.specs.declared.archives.ArchiveTables.{ArchiveTables}
 use Rattle.elf_resolve.specs.declared.archives.OpenedArchive.{OpenedArchive}
-use Rattle.elf_resolve.specs.declared.link_faults.LinkFault.{LinkFault}
 use Rattle.elf_resolve.specs.declared.resolver.InputState.{InputState}
 use Rattle.elf_resolve.specs.declared.resolver.InputState.TheVariants as state
 use Rattle.elf_resolve.specs.declared.resolver.Resolver.{Resolver}
 use Rattle.elf_source.specs.Source.{SourceState}
-use Rattle.elf_resolve.proofs.OpenedLaws.{all_more, all_push, distinct_push, elements_more, found_new, found_opened, one_taken, state_new, state_still}
+use Rattle.elf_resolve.proofs.OpenedLaws.{all_more, all_push, distinct_push, elements_more, found_new, one_taken, state_new, state_still}
 
 -- a link by its parts
 pub linking_by : (r : Resolver) (keys : LinkKeys) (rows : List LinkRow) (archives : List OpenArchive) → r.link.keys.keys ≡ keys → r.link.rows.rows ≡ rows
@@ -395,129 +391,3 @@ searched_taken files file seen input old opened_link kept_as new archive is at o
       others = λ j differ. ap (λ s. is_new_state (slice_get s j)) states
           ∙ ap is_new_state (set_there old.states.items input j (state.Archive (length opened_link.tables.archives.items)) (λ same. differ (sym same)));
     }
-
--- members of an archive that is open
-pub range_has : (file : List ℕ) (members all here : List ℕ) (archive : OpenedArchive) → all ≡ members → HasMembers file members archive
-    → (IsRangeOf archive.members.0 archive.members.1 (length all) → here ≡ elements_in all archive.members) → AreMembersOf file here (extent_of_names archive.names)
-range_has file members all here archive are has range =
-    let same : here ≡ elements_in members archive.members =
-    range (has.ordered, omega (arith, has.within, ap length are)) ∙ ap (λ m. elements_in m archive.members) are in
-    record { unrefused = has.are.unrefused; offsets_are = same ∙ has.are.offsets_are; names_are = has.are.names_are }
-
-pub members_of_file : (known : Option (List ℕ)) (file : List ℕ) (headers : ℕ) → known ≡ Some file → members_by_file known headers ≡ members_as_objects file (link_members file).members headers
-members_of_file known file headers is = ap (λ k. members_by_file k headers) is
-
-file_of : (one other : List ℕ) (known : Option (List ℕ)) → known ≡ Some one → known ≡ Some other → one ≡ other
-file_of one other known is is_other = let both : Some one ≡ Some other = sym is ∙ is_other in cc
-
-pub search_makes : (files : LinkFiles) (file : List ℕ) (old new : Resolver) (archive : OpenedArchive) (before after : List Bool) → IsLink files old → archive_of_input old.tables.archives.items archive.input ≡ Some archive
-    → files.file archive.input ≡ Some file → before ≡ old.taken.items → new.taken.items ≡ after → new.tables ≡ old.tables
-    → (IsRangeOf archive.members.0 archive.members.1 (length before) → SameOutside before after archive.members)
-    → (HasMembers file old.tables.members.items archive → IsRangeOf archive.members.0 archive.members.1 (length before) → IsRangeOf archive.entries.0 archive.entries.1 (length old.tables.entries.items)
-    → pass_of new.link (elements_in after archive.members)
-    ≡ archive_searched (archive_in archive file old.room.headers) (elements_in old.tables.entries.items archive.entries) (pass_of old.link (elements_in before archive.members)))
-    → (linking_of new ≡ archive_again (linking_of old) (open_archive old.tables.entries.items old.taken.items archive) (members_as_objects file (link_members file).members files.headers))
-    × (length new.taken.items ≡ length old.taken.items)
-search_makes files file old new archive before after is found file_is before_is after_is tables outside searches =
-    let opened = found_opened files old.tables.members.items (length old.tables.entries.items) 0 old.tables.archives.items archive.input archive is.opened found in
-    let has : HasMembers file old.tables.members.items archive = subst (λ f. HasMembers f old.tables.members.items archive) (file_of opened.file file (files.file archive.input) opened.file_is file_is) opened.has_members in
-    let fits : IsRangeOf archive.members.0 archive.members.1 (length before) = (has.ordered, omega (arith, has.within, is.marked, ap length before_is)) in
-    let same : SameOutside old.taken.items new.taken.items archive.members =
-    subst (λ t. SameOutside old.taken.items t archive.members) (sym after_is) (subst (λ b. SameOutside b after archive.members) before_is (outside fits)) in
-    let es = elements_in old.tables.entries.items archive.entries in (
-      members_searched files file old new archive is found tables same
-          (ap (λ t. pass_of new.link (elements_in t archive.members)) after_is
-          ∙ searches has fits (opened.entries_ordered, opened.entries_within) ∙ ap (λ h. archive_searched (archive_in archive file h) es (pass_of old.link (elements_in before archive.members))) is.headers
-          ∙ ap (λ b. archive_searched (archive_in archive file files.headers) es (pass_of old.link (elements_in b archive.members))) before_is),
-      same.count,
-    )
-
-pub on_ok_then : {T E : Type 0} → (P Q : Type 0) (r : Result T E) → (P → Q) → OnOk r P → OnOk r Q
-on_ok_then P Q (Ok x) step holds = step holds
-on_ok_then P Q (Err e) step holds = holds
-
-pub again_makes : (files : LinkFiles) (file : List ℕ) (old opened searched new : Resolver) (archive a : OpenedArchive) (result : Result (Unit {0}) LinkFault) → opened ≡ old → new ≡ record searched { left = new.left } → archive ≡ a
-    → (IsLink files opened → archive_of_input opened.tables.archives.items archive.input ≡ Some archive → files.file archive.input ≡ Some file
-    → OnOk result (TookMembers opened searched (archive_again (linking_of opened) (open_archive opened.tables.entries.items opened.taken.items archive) (members_as_objects file (link_members file).members files.headers))))
-    → IsLink files old → archive_of_input old.tables.archives.items a.input ≡ Some a → files.file a.input ≡ Some file
-    → OnOk result (TookMembers old new (archive_again (linking_of old) (open_archive old.tables.entries.items old.taken.items a) (members_as_objects file (link_members file).members files.headers)))
-again_makes files file old opened searched new archive a result same_open left one searches is found file_is =
-    let members = members_as_objects file (link_members file).members files.headers in
-    let found_there : archive_of_input opened.tables.archives.items archive.input ≡ Some archive =
-    subst (λ (r : Resolver). archive_of_input r.tables.archives.items archive.input ≡ Some archive) (sym same_open) (subst (λ (x : OpenedArchive). archive_of_input old.tables.archives.items x.input ≡ Some x) (sym one) found) in
-    let took = searches (subst (λ r. IsLink files r) (sym same_open) is) found_there (ap (λ (x : OpenedArchive). files.file x.input) one ∙ file_is) in
-    let here = subst (λ (x : OpenedArchive). OnOk result (TookMembers old searched (archive_again (linking_of old) (open_archive old.tables.entries.items old.taken.items x) members))) one
-    (subst (λ (r : Resolver). OnOk result (TookMembers r searched (archive_again (linking_of r) (open_archive r.tables.entries.items r.taken.items archive) members))) same_open took) in
-    let made = archive_again (linking_of old) (open_archive old.tables.entries.items old.taken.items a) members in
-    on_ok_then (TookMembers old searched made) (TookMembers old new made) result (λ done. record {
-      makes = ap (λ (r : Resolver). linking_of r) left ∙ done.makes;
-      headers = ap (λ (r : Resolver). r.room.headers) left ∙ done.headers;
-      libraries = ap (λ (r : Resolver). r.libraries) left ∙ done.libraries;
-      tables = ap (λ (r : Resolver). r.tables) left ∙ done.tables;
-      states = ap (λ (r : Resolver). r.states) left ∙ done.states;
-      groups = ap (λ (r : Resolver). r.groups) left ∙ done.groups;
-      count = ap (λ (r : Resolver). length r.taken.items) left ∙ done.count;
-    }) here
-
-pub on_ok : {T E : Type 0} → (P : Type 0) (r : Result T E) (x : T) → r ≡ Ok x → OnOk r P → P
-on_ok P r x is holds = subst (λ q. OnOk q P) is holds
-
--- ALL MEMBERS ARE TAKEN, one after another
-whole_step : (i r : ℕ) (link : Linking) (file : List ℕ) (n : ℕ) (m : LinkMember) (rest : List LinkMember) (headers : ℕ)
-    → members_taken i r link (whole_members file n (m ∷ rest) headers) ≡ members_taken i r (members_taken i r link (whole_members file n (m ∷ []) headers)) (whole_members file (n + 1) rest headers)
-whole_step i r link file n m rest headers = by (is_archive_index file m.header || is_name_table file m.header) where
-  by : (no_file : Bool) → members_taken i r link (if no_file then whole_members file (n + 1) rest headers else (n, or_empty (object_of (bytes_in file m.extent) headers)) ∷ whole_members file (n + 1) rest headers)
-      ≡ members_taken i r (members_taken i r link (if no_file then [] else (n, or_empty (object_of (bytes_in file m.extent) headers)) ∷ [])) (whole_members file (n + 1) rest headers)
-  by true = refl
-  by false = refl
-
-took_then : (a b c : Resolver) (made : Linking) → TookMembers a b (linking_of b) → TookMembers b c made → TookMembers a c made
-took_then a b c made first second = record {
-  makes = second.makes;
-  headers = second.headers ∙ first.headers;
-  libraries = second.libraries ∙ first.libraries;
-  tables = second.tables ∙ first.tables;
-  states = second.states ∙ first.states;
-  groups = second.groups ∙ first.groups;
-  count = second.count ∙ first.count;
-}
-
-took_as : (a b : Resolver) (made other : Linking) → made ≡ other → TookMembers a b made → TookMembers a b other
-took_as a b made other same took = subst (λ l. TookMembers a b l) same took
-
-pub took_itself : (a : Resolver) → TookMembers a a (linking_of a)
-took_itself a = record { makes = refl; headers = refl; libraries = refl; tables = refl; states = refl; groups = refl; count = refl }
-
-pub whole_more : (file : List ℕ) (start now new : Resolver) (i r number : ℕ) (whole : Linking) → TookMembers start now (linking_of now)
-    → members_taken i r (linking_of now) (whole_members file number (drop number (link_members file).members) start.room.headers) ≡ whole → number < length (link_members file).members
-    → TookMembers now new (members_taken i r (linking_of now) (whole_members file number (get_or (link_members file).members number no_member ∷ []) now.room.headers))
-    → TookMembers start new (linking_of new) × (members_taken i r (linking_of new) (whole_members file (number + 1) (drop (number + 1) (link_members file).members) start.room.headers) ≡ whole)
-whole_more file start now new i r number whole first so_far below took =
-    let ms = (link_members file).members in
-    let m = get_or ms number no_member in
-    let next : drop number ms ≡ m ∷ drop (number + 1) ms = drop-cons ms number no_member below ∙ ap (λ n. m ∷ drop n ms) (sym (add-one number)) in
-    let made : linking_of new ≡ members_taken i r (linking_of now) (whole_members file number (m ∷ []) start.room.headers) =
-    took.makes ∙ ap (λ h. members_taken i r (linking_of now) (whole_members file number (m ∷ []) h)) first.headers in (
-      took_then start now new (linking_of new) first (took_as now new _ (linking_of new) (sym took.makes) took),
-      ap (λ l. members_taken i r l (whole_members file (number + 1) (drop (number + 1) ms) start.room.headers)) made
-          ∙ sym (whole_step i r (linking_of now) file number m (drop (number + 1) ms) start.room.headers)
-          ∙ ap (λ l. members_taken i r (linking_of now) (whole_members file number l start.room.headers)) (sym next)
-          ∙ so_far,
-    )
-
-pub whole_end : (file : List ℕ) (start now : Resolver) (i r number : ℕ) (whole : Linking) → TookMembers start now (linking_of now)
-    → members_taken i r (linking_of now) (whole_members file number (drop number (link_members file).members) start.room.headers) ≡ whole → length (link_members file).members ≤ number
-    → TookMembers start now whole
-whole_end file start now i r number whole first so_far above =
-    let none : drop number (link_members file).members ≡ [] = drop_all number (link_members file).members above in
-    took_as start now (linking_of now) whole (sym (ap (λ l. members_taken i r (linking_of now) (whole_members file number l start.room.headers)) none) ∙ so_far) first
-
-pub members_count : (file : List ℕ) (offsets : List ℕ) (names : Option FileRange) → AreMembersOf file offsets names → length (link_members file).members ≡ length offsets
-members_count file offsets names are = sym (ap length are.offsets_are ∙ length-map (link_members file).members header_of)
-
-pub still_has : (file : List ℕ) (start now : Resolver) (archive : OpenedArchive) (made : Linking) → TookMembers start now made → HasMembers file start.tables.members.items archive → HasMembers file now.tables.members.items archive
-still_has file start now archive made took has = subst (λ (t : ArchiveTables). HasMembers file t.members.items archive) (sym took.tables) has
-
-pub on_ok_from : {T E : Type 0} → (P : Type 0) (r : Result T E) → P → OnOk r P
-on_ok_from P (Ok x) holds = holds
-on_ok_from P (Err e) holds = tt

@@ -29,7 +29,8 @@ use Rattle.elf_resolve.specs.declared.resolver.InputState.{InputState}
 use Rattle.elf_resolve.specs.declared.resolver.InputState.TheVariants as state
 use Rattle.elf_resolve.specs.declared.resolver.Resolver.{Resolver}
 use Rattle.elf_resolve.proofs.OpenedLaws.{input_found, opened_as}
-use Rattle.elf_resolve.proofs.ResolvedLaws.{input_missing, input_object, link_still, linking_by, on_ok_then, set_here, set_there}
+use Rattle.elf_resolve.proofs.ResolvedLaws.{input_missing, input_object, link_still, linking_by, set_here, set_there}
+use Rattle.elf_resolve.proofs.TakenMemberLaws.{on_ok_then}
 
 -- AN INPUT IS REACHED
 done_state : (old new : List InputState) (archives : List OpenedArchive) (index i : ℕ) → slice_get old index ≡ Some state.New → new ≡ set old index state.Done → IsInputState (slice_get old i) archives i → IsInputState (slice_get new i) archives i

@@ -21,7 +21,7 @@ use crate::archive_searches::{
 use crate::archives::OpenedArchive;
 use crate::link_faults::{LinkFault, refused};
 use crate::link_files::InputFiles;
-use crate::members::is_file;
+use crate::member_files::is_file;
 use crate::resolver::{InputState, Resolver};
 use crate::table::LinkStop;
 use elf_model::{LinkCause, LinkRowKind};

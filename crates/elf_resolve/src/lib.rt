@@ -31,6 +31,7 @@ mod link_memory;
 mod link_steps;
 mod linker_names;
 mod list_lines;
+mod member_files;
 mod member_names;
 mod members;
 mod needed_libraries;

@@ -1,21 +1,19 @@
 //! The members of an archive, as objects of a link.
 ghost use Rattle.std.specs.Prelude.{◌≡◌, ◌↔◌, ◌+◌, ◌-◌, ◌≤◌, ◌<◌, ◌||◌, ◌∷◌, [], true, false, IfOk, IsSome, IsTrue, OnErr, OnOk, List, ℕ, Option, None, Ok, Some, bytes_eq, get_or, length, map};
 ghost use Rattle.elf_archive.specs.Members.{extent_of_names};
-ghost use Rattle.elf_model.specs.Archive.{is_name_table};
 ghost use Rattle.elf_model.specs.Bytes.{slice};
-ghost use Rattle.elf_model.specs.LinkArchives.{LinkFiles, is_archive_index, link_members, members_refusal};
+ghost use Rattle.elf_model.specs.LinkArchives.{LinkFiles, link_members};
 ghost use Rattle.elf_model.specs.LinkPasses.{index_name, name_with_default};
 ghost use Rattle.elf_model.specs.LinkSymbols.{AT, defines_from, defines_if, is_that, link_name, symbol_table_in};
 ghost use Rattle.elf_model.specs.Tables.{SYMBOL_SIZE, entry_at};
 ghost use Rattle.elf_model.specs.declared.link_states.LinkRefusal.{LinkRefusal};
 ghost use Rattle.elf_source.specs.Prelude.{KeepsSource};
-ghost use Rattle.elf_resolve.specs.LinkMembers.{KnownMembers, ReturnsFileMember, TakesMember, file_of_range, members_by_file, range_before};
+ghost use Rattle.elf_resolve.specs.LinkMembers.{KnownMembers, TakesMember, file_of_range, members_by_file, range_before};
 ghost use Rattle.elf_resolve.specs.ObjectNames.{FindsInObject, definition_at};
 ghost use Rattle.elf_resolve.specs.ObjectTables.{HoldsSymbols, HoldsTables};
 ghost use Rattle.elf_resolve.specs.StringBuffers.{HoldsText};
 ghost use Rattle.elf_resolve.specs.Taken.{FindsDefinition, IsLimit, IsLinkFault, header_of};
 
-use crate::archive_index::is_index;
 use crate::archives::{OpenedArchive, member_cut, read_header_at};
 use crate::link_faults::{LinkFault, in_member};
 use crate::object::{ObjectTables, SymbolRows, linked_header, read_tables, take_object};
@@ -24,7 +22,7 @@ use crate::passes::ArchiveObjects;
 use crate::room::{LinkRoom, reach_slots, slots_for};
 use crate::string_buffer::{HeldText, StringBuffer, after};
 use crate::table::{KeyTable, LinkStop};
-use elf_archive::{FileRange, MEMBER_HEADER_BYTES, is_name_table};
+use elf_archive::{FileRange, MEMBER_HEADER_BYTES};
 use elf_model::{IndexEntry, LinkCause};
 use elf_record::numbers::ET_REL;
 use elf_record::{Cause, Sym};
@@ -52,7 +50,7 @@ pub(crate) struct MembersOfArchive<'r, S: Source> {
 ///
 /// # Errors
 /// There is no such member.
-fn place_of(members: &[u64], member: u32) -> Result<u64, LinkFault>
+pub(crate) fn place_of(members: &[u64], member: u32) -> Result<u64, LinkFault>
     ensures place { IfOk result (λ at. (member < length members.now)
         × (at ≡ get_or members.now member 0)) }
     ensures none { OnErr result (length members.now ≤ member) }
@@ -71,34 +69,6 @@ fn names_before(names: Option<FileRange>, at: u64) -> Option<FileRange>
         Some(table) if table.at <= at => Some(table),
         _ => None,
     }
-}
-
-/// Returns whether a member is a file: neither an index nor the table of names.
-///
-/// # Errors
-/// Those of its header.
-pub(crate) fn is_file<S: Source>(
-    src: &mut Counted<RangeSource<S>>,
-    members: &[u64],
-    member: u32,
-) -> Result<bool, LinkFault>
-    ensures whole { src.new.seen.whole ≡ src.old.seen.whole }
-    ensures tells { (file : List ℕ) → file_of_range src.old.seen ≡ Some file →
-        members_refusal file ≡ None → members.now ≡ map header_of (link_members file).members →
-        ReturnsFileMember file member result }
-{
-    let at = place_of(members, member)?;
-    src.widen();
-    let mut header = [0; MEMBER_HEADER_BYTES];
-    read_header_at(src, at, &mut header)?;
-    Ok(!is_no_file(&header))
-}
-
-/// Returns `true` if a header is that of an index or of the table of names.
-fn is_no_file(header: &[u8; MEMBER_HEADER_BYTES]) -> bool
-    ensures { result ≡ (is_archive_index header.now 0 || is_name_table header.now 0) }
-{
-    is_index(header) || is_name_table(header)
 }
 
 impl<S: Source> MembersOfArchive<'_, S> {

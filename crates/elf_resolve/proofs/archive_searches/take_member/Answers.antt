@@ -3,7 +3,7 @@ use Rattle.std.specs.Prelude.{None, false}
 use Rattle.elf_model.specs.LinkArchives.{LinkFiles}
 use Rattle.elf_archive.specs.Members.{extent_of_names}
 use Rattle.elf_resolve.specs.LinkMembers.{KnownMembers}
-use Rattle.elf_resolve.proofs.ResolvedLaws.{range_has}
+use Rattle.elf_resolve.proofs.TakenMemberLaws.{range_has}
 use Rattle.elf_resolve.proofs.TakenObjectLaws.{took_object}
 use Rattle.elf_resolve.proofs.archive_searches.take_member.Goals as goal
 

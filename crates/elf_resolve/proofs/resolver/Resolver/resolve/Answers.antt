@@ -1,5 +1,5 @@
 use Rattle.std.proofs.Common.{◌∙◌}
-use Rattle.elf_resolve.proofs.ResolvedLaws.{on_ok, on_ok_then}
+use Rattle.elf_resolve.proofs.TakenMemberLaws.{on_ok, on_ok_then}
 use Rattle.elf_resolve.proofs.resolver.Resolver.resolve.Goals as goal
 
 pub returns : goal.returns

@@ -1,7 +1,7 @@
 use Rattle.std.proofs.Common.{◌≡◌, length, refl, arith}
 use Rattle.std.specs.Vec.{with_items}
 use Rattle.std.proofs.lemmas.List.{with_items_is}
-use Rattle.elf_resolve.proofs.ResolvedLaws.{on_ok, search_makes}
+use Rattle.elf_resolve.proofs.TakenMemberLaws.{on_ok, search_makes}
 use Rattle.elf_resolve.proofs.resolver.Resolver.search.Goals as goal
 
 pub returns-in-Ok : goal.returns-in-Ok

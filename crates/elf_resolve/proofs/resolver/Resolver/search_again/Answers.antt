@@ -3,7 +3,7 @@ use Rattle.std.specs.Prelude.{Some}
 use Rattle.std.specs.List.{slice_get}
 use Rattle.elf_resolve.specs.declared.archives.OpenedArchive.{OpenedArchive}
 use Rattle.elf_resolve.proofs.OpenedLaws.{some_of}
-use Rattle.elf_resolve.proofs.ResolvedLaws.{again_makes}
+use Rattle.elf_resolve.proofs.TakenMemberLaws.{again_makes}
 use Rattle.elf_resolve.proofs.resolver.Resolver.search_again.Goals as goal
 
 pub returns-clause-searches : goal.returns-clause-searches

@@ -1,7 +1,7 @@
 use Rattle.std.proofs.Common.{ap, ◌∙◌}
 use Rattle.elf_resolve.specs.Resolved.{linking_of}
 use Rattle.elf_resolve.specs.declared.resolver.Resolver.{Resolver}
-use Rattle.elf_resolve.proofs.ResolvedLaws.{on_ok_from}
+use Rattle.elf_resolve.proofs.TakenMemberLaws.{on_ok_from}
 use Rattle.elf_resolve.proofs.resolver.Resolver.take_all.Goals as goal
 
 pub returns : goal.returns

@@ -1,7 +1,8 @@
 use Rattle.std.proofs.Common.{ap, subst, ◌∙◌}
 use Rattle.elf_resolve.specs.LinkMembers.{whole_file_of}
 use Rattle.elf_resolve.specs.ResolvedInputs.{IsArchiveAt, OpenedAs}
-use Rattle.elf_resolve.proofs.ResolvedLaws.{on_ok_then, opened_members, search_found, searched_taken, whole_taken}
+use Rattle.elf_resolve.proofs.ResolvedLaws.{opened_members, search_found, searched_taken, whole_taken}
+use Rattle.elf_resolve.proofs.TakenMemberLaws.{on_ok_then}
 use Rattle.elf_resolve.proofs.resolver.Resolver.take_archive.Goals as goal
 
 pub returns-then-is_whole : goal.returns-then-is_whole

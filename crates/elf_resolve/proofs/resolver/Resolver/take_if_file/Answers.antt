@@ -7,7 +7,7 @@ use Rattle.elf_model.specs.LinkSymbols.{object_of}
 use Rattle.elf_resolve.specs.LinkMembers.{whole_file_of}
 use Rattle.elf_resolve.specs.Resolved.{linking_of}
 use Rattle.elf_resolve.specs.ResolvedInputs.{TookMembers}
-use Rattle.elf_resolve.proofs.ResolvedLaws.{range_has}
+use Rattle.elf_resolve.proofs.TakenMemberLaws.{range_has}
 use Rattle.elf_resolve.proofs.TakenObjectLaws.{as_file}
 use Rattle.elf_resolve.proofs.resolver.Resolver.take_if_file.Goals as goal
 

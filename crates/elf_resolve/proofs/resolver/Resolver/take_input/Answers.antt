@@ -1,4 +1,4 @@
-use Rattle.elf_resolve.proofs.ResolvedLaws.{on_ok_then}
+use Rattle.elf_resolve.proofs.TakenMemberLaws.{on_ok_then}
 use Rattle.elf_resolve.proofs.TakenLaws.{reached_done, reached_link, reached_took}
 use Rattle.elf_resolve.proofs.resolver.Resolver.take_input.Goals as goal
 

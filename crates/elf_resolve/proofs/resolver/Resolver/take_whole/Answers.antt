@@ -2,7 +2,7 @@ use Rattle.std.proofs.Common.{◌<◌, ◌≤◌, length, ap, ◌∙◌, arith, 
 use Rattle.std.proofs.lemmas.Option.{slice_get-get_or}
 use Rattle.elf_model.specs.LinkArchives.{link_members, no_member}
 use Rattle.elf_resolve.specs.LinkMembers.{whole_file_of}
-use Rattle.elf_resolve.proofs.ResolvedLaws.{members_count, range_has, still_has, whole_end, whole_more}
+use Rattle.elf_resolve.proofs.TakenMemberLaws.{members_count, range_has, still_has, whole_end, whole_more}
 use Rattle.elf_resolve.proofs.resolver.Resolver.take_whole.Goals as goal
 
 pub loop-number-preserved : goal.loop-number-preserved

@@ -4,7 +4,7 @@ use Rattle.std.specs.List.{slice_get}
 use Rattle.elf_resolve.specs.Plans.{planned_files}
 use Rattle.elf_resolve.specs.declared.resolver.InputState.TheVariants as state
 use Rattle.elf_resolve.proofs.OpenedLaws.{found_opened}
-use Rattle.elf_resolve.proofs.ResolvedLaws.{on_ok_then}
+use Rattle.elf_resolve.proofs.TakenMemberLaws.{on_ok_then}
 use Rattle.elf_resolve.proofs.TakenLaws.{archive_again_taken, archive_found, done_again, found_as_own, known_planned}
 use Rattle.elf_resolve.proofs.resolver.Resolver.visit.Goals as goal
 

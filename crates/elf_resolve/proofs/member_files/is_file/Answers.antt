@@ -6,7 +6,7 @@ use Rattle.elf_resolve.specs.MemberExtents.{member_refused}
 use Rattle.elf_resolve.specs.Taken.{IsLinkFault, header_of}
 use Rattle.elf_resolve.proofs.IndexParts.{unrefused_small}
 use Rattle.elf_resolve.proofs.MemberTaking.{data_of_index, file_by, header_of_index, member_of_index, widened_file}
-use Rattle.elf_resolve.proofs.members.is_file.Goals as goal
+use Rattle.elf_resolve.proofs.member_files.is_file.Goals as goal
 
 pub returns-in_err-at-clause-tells : goal.returns-in_err-at-clause-tells
 returns-in_err-at-clause-tells g c = λ file held unrefused are.
