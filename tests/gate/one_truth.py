@@ -254,7 +254,7 @@ def names_of(sources, numbers):
 def columns_of_links(sources):
     """The columns of the lines of `resolve`, which has no table."""
     lines = set()
-    for body in re.findall(r"^(?:pub )?fn .*?^\}", read(sources, "crates/elf_resolve/src/lines.rt"), re.S | re.M):
+    for body in re.findall(r"^(?:pub\S* )?fn .*?^\}", read(sources, "crates/elf_resolve/src/row_lines.rt"), re.S | re.M):
         for letter, last, rest in re.findall(r'begin_named::<R>\(.*?, b"(\w)", b"(\w+)"\);(.*)', body, re.S):
             lines.add(f"{letter}  {' '.join(re.findall(r'put_[a-z]+::<R>[(].*?, b.([a-z_]+).', rest) + [last])}")
     return lines
