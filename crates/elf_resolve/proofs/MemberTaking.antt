@@ -74,7 +74,7 @@ still_known old new offsets kept names others whole same named known =
 abbrev pub files_with : (headers : ℕ) → LinkFiles
 files_with headers = record { file = λ input. None; is_archive = λ input. false; is_whole = λ input. false; headers = headers }
 
--- a header read tells what its member is
+-- a header that was read says what its member is
 pub index_by : (file header : List ℕ) (at : ℕ) → header ≡ slice file at 60 → is_archive_index header 0 ≡ is_archive_index file at
 index_by file header at is =
     rw is (ap (λ n. n == 0x2020202020202020 && (field (slice file at 60) 0 8 == 0x202020202020202f || field (slice file at 60) 0 8 == 0x202f34364d59532f)) (field-slice file at 60 8 8 (omega arith))

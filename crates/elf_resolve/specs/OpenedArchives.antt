@@ -28,7 +28,7 @@ IsInputState (Some (state.Archive index)) archives input = (archive : OpenedArch
 IsInputState (Some (state.Library index)) archives input = ⊥
 IsInputState _ archives input = archive_of_input archives input ≡ None
 
--- marks are what they were but for those of a range
+-- marks are unchanged, except those of a range
 pub record SameOutside (old new : List Bool) (range : ℕ × ℕ) : Type 0 where
   pub count : length new ≡ length old
   pub before : take range.0 new ≡ take range.0 old
