@@ -48,7 +48,12 @@ pub mod SectionTakenLaws
 pub mod LinkedSymbolLaws
 pub mod PlaceLaws
 pub mod OpenedLaws
+pub mod ListRoomLaws
 pub mod ResolvedLaws
 pub mod TakenMemberLaws
 pub mod TakenLaws
 pub mod StepLaws
+pub mod OwnKeyLaws
+pub mod OwnLinkLaws
+pub mod OwnFileLaws
+pub mod ListedLaws

@@ -39,3 +39,6 @@ pub mod Plans
 pub mod LinkPlaces
 pub mod OpenedArchives
 pub mod ResolvedInputs
+pub mod KeptLimits
+pub mod ListRooms
+pub mod OwnLinks

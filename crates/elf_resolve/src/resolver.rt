@@ -7,9 +7,12 @@ ghost use Rattle.elf_model.specs.LinkInputs.{LinkInputs, Linking, file_row, inpu
 ghost use Rattle.elf_source.specs.Prelude.{IsWholeRange};
 ghost use Rattle.elf_resolve.specs.LinkMembers.{file_of_range};
 ghost use Rattle.elf_resolve.specs.LinkPlaces.{IsLinkAt, input_made, is_new_input};
+ghost use Rattle.elf_resolve.specs.ListRooms.{HasListRoom};
+ghost use Rattle.elf_resolve.specs.OwnLinks.{IsOwnLink};
 ghost use Rattle.elf_resolve.specs.Plans.{IsStaticPlan, planned_files, plan_steps};
 ghost use Rattle.elf_resolve.specs.Resolved.{linking_of};
 ghost use Rattle.elf_resolve.specs.ResolvedInputs.{AddedRowOf, AskedNames, IsAtStep, IsFresh, IsLink, IsPlanned, OpenedGroup, TookAll, TookInput};
+ghost use Rattle.elf_resolve.specs.StaticLinks.{AreKeysListed};
 
 use crate::archives::ArchiveTables;
 use crate::key_chains::KeyChains;
@@ -161,11 +164,14 @@ impl<'a> Resolver<'a> {
         asked: &[&str],
         plan: &LinkPlan,
     ) -> Result<(), LinkFault>
-        ensures { (inputs : LinkInputs) → IsFresh self.old →
+        ensures links { (inputs : LinkInputs) → IsFresh self.old →
             IsStaticPlan (F.file files.old) plan.now → plan_steps inputs ≡ plan.now.steps.items →
             self.new.end ≡ None → OnOk result (linking_of self.new ≡ linked
             (files_as_inputs (planned_files (F.file files.old) plan.now
             self.old.room.headers)) (map (λ name. name.now) asked.now) inputs) }
+        ensures listed { (inputs : LinkInputs) → IsFresh self.old →
+            IsStaticPlan (F.file files.old) plan.now → plan_steps inputs ≡ plan.now.steps.items →
+            self.new.end ≡ None → OnOk result (AreKeysListed self.new) }
     {
         let taken = self.take_all(files, asked, plan);
         self.list_by_keys();
@@ -175,7 +181,9 @@ impl<'a> Resolver<'a> {
     /// Lists by their keys what the lines of keys name, and marks the rows that those of faults
     /// name.
     fn list_by_keys(&mut self)
-        ensures { linking_of self.new ≡ linking_of self.old }
+        ensures same { linking_of self.new ≡ linking_of self.old }
+        ensures lists { HasListRoom self.old → IsOwnLink (linking_of self.old) →
+            AreKeysListed self.new }
     {
         self.chain_entries();
         self.chain_further();
@@ -188,6 +196,7 @@ impl<'a> Resolver<'a> {
     /// A file cannot be opened or read.
     fn end_with(&mut self, taken: Result<(), LinkFault>) -> Result<(), LinkFault>
         ensures same { linking_of self.new ≡ linking_of self.old }
+        ensures rest { self.new ≡ record self.old { end = self.new.end } }
         ensures ends { self.new.end ≡ None → OnOk result (taken ≡ Ok tt) }
     {
         match taken {
@@ -211,11 +220,14 @@ impl<'a> Resolver<'a> {
         asked: &[&str],
         plan: &LinkPlan,
     ) -> Result<(), LinkFault>
-        ensures { (inputs : LinkInputs) → IsFresh self.old →
+        ensures links { (inputs : LinkInputs) → IsFresh self.old →
             IsStaticPlan (F.file files.old) plan.now → plan_steps inputs ≡ plan.now.steps.items →
             OnOk result (linking_of self.new ≡ linked
             (files_as_inputs (planned_files (F.file files.old) plan.now
             self.old.room.headers)) (map (λ name. name.now) asked.now) inputs) }
+        ensures room { (inputs : LinkInputs) → IsFresh self.old →
+            IsStaticPlan (F.file files.old) plan.now → plan_steps inputs ≡ plan.now.steps.items →
+            OnOk result (HasListRoom self.new) }
     {
         self.take_inputs(files, asked, plan)?;
         self.offer_libraries(files)
