@@ -1,8 +1,10 @@
-use Rattle.std.proofs.Common.{List, ℕ, map, sym, subst, ◌∙◌}
+use Rattle.std.proofs.Common.{List, ℕ, None, ap, get_or, map, sym, subst, ◌∙◌}
 use Rattle.std.specs.Borrow.{Bor}
 use Rattle.elf_model.specs.LinkArchives.{files_as_inputs}
+use Rattle.elf_resolve.specs.ListRooms.{HasListRoom}
 use Rattle.elf_resolve.specs.OwnLinks.{IsOwnLink}
 use Rattle.elf_resolve.specs.Plans.{planned_files}
+use Rattle.elf_resolve.specs.declared.resolver.Resolver.{Resolver}
 use Rattle.elf_resolve.proofs.ListedLaws.{listed_ended}
 use Rattle.elf_resolve.proofs.OwnFileLaws.{files_own}
 use Rattle.elf_resolve.proofs.OwnLinkLaws.{linked_own}
@@ -22,3 +24,13 @@ returns-clause-listed g c = λ inputs fresh static steps ends.
     let own = subst (λ l. IsOwnLink l) (sym made) (linked_own (files_as_inputs all) names inputs (files_own all)) in
     listed_ended c.list_by_keys.new.self c.end_with.new.self c.end_with.ensures.rest
     (c.list_by_keys.ensures.lists (on_ok _ _ _ was (c.take_all-taken.ensures.room inputs fresh static steps)) own)) (c.end_with.ensures.ends ends)
+
+pub returns-clause-kinds : goal.returns-clause-kinds
+returns-clause-kinds g c = λ inputs fresh static steps ends.
+    on_ok_then _ _ c.end_with.result
+    (λ was.
+    let room : HasListRoom c.take_all-taken.new.self = on_ok _ _ _ was (c.take_all-taken.ensures.room inputs fresh static steps) in
+    λ index.
+    ap (λ (r : Resolver). get_or r.kinds.items index None) c.end_with.ensures.rest
+    ∙ ap (λ v. get_or v.items index None) c.list_by_keys.ensures.kinds
+    ∙ room.kinds index) (c.end_with.ensures.ends ends)
