@@ -39,3 +39,7 @@ pub mod Plans
 pub mod LinkPlaces
 pub mod OpenedArchives
 pub mod ResolvedInputs
+pub mod LibrarySymbols
+pub mod VersionTexts
+pub mod KeyMarks
+pub mod LibraryNeeds
