@@ -42,3 +42,7 @@ pub mod ResolvedInputs
 pub mod KeptLimits
 pub mod ListRooms
 pub mod OwnLinks
+pub mod LibrarySymbols
+pub mod VersionTexts
+pub mod KeyMarks
+pub mod LibraryNeeds
