@@ -52,3 +52,10 @@ pub mod ResolvedLaws
 pub mod TakenMemberLaws
 pub mod TakenLaws
 pub mod StepLaws
+pub mod BeginLaws
+pub mod SearchStopLaws
+pub mod RefusalLaws
+pub mod SearchEndLaws
+pub mod StopLaws
+pub mod StopMemberLaws
+pub mod LinkEndLaws

@@ -39,3 +39,5 @@ pub mod Plans
 pub mod LinkPlaces
 pub mod OpenedArchives
 pub mod ResolvedInputs
+pub mod SearchStops
+pub mod EndsAtRefusal

@@ -1,10 +1,12 @@
 //! The inputs of a link in their order.
-ghost use Rattle.std.specs.Prelude.{◌≡◌, ◌≢◌, ◌+◌, ◌<◌, ◌∷◌, [], false, ℕ, List, length, map, IfOk, OnOk, None, Ok, Some};
+ghost use Rattle.std.specs.Prelude.{◌≡◌, ◌≢◌, ◌+◌, ◌<◌, ◌∷◌, [], false, ℕ, List, length, map, Err, IfErr, IfOk, OnOk, None, Ok, Some};
 ghost use Rattle.std.specs.List.{slice_get};
 ghost use Rattle.std.proofs.Math.ListN.{set};
 ghost use Rattle.elf_model.specs.LinkArchives.{LinkFiles, files_as_inputs};
 ghost use Rattle.elf_model.specs.LinkInputs.{LinkInputs, Linking, file_row, input_taken, linked, with_arguments};
 ghost use Rattle.elf_source.specs.Prelude.{IsWholeRange};
+ghost use Rattle.elf_resolve.specs.EndsAtRefusal.{EndsLink, HasBadScript, LeavesRows};
+ghost use Rattle.elf_resolve.specs.Taken.{IsLinkFault};
 ghost use Rattle.elf_resolve.specs.LinkMembers.{file_of_range};
 ghost use Rattle.elf_resolve.specs.LinkPlaces.{IsLinkAt, input_made, is_new_input};
 ghost use Rattle.elf_resolve.specs.Plans.{IsStaticPlan, planned_files, plan_steps};
@@ -143,7 +145,8 @@ impl<'a> Resolver<'a> {
     /// There is no room for it.
     #[tactic(auto, unfolding(elf_model::specs::LinkKeys::symbol_taken))]
     pub fn ask(&mut self, name: &[u8]) -> Result<(), LinkFault>
-        ensures { OnOk result (AskedNames self.old self.new (name.now ∷ [])) }
+        ensures asks { OnOk result (AskedNames self.old self.new (name.now ∷ [])) }
+        ensures limit { IfErr result (IsLinkFault None) }
     {
         match self.link.keys.use_name(name, ASKED, None) {
             Ok(()) => Ok(()),
@@ -161,11 +164,17 @@ impl<'a> Resolver<'a> {
         asked: &[&str],
         plan: &LinkPlan,
     ) -> Result<(), LinkFault>
-        ensures { (inputs : LinkInputs) → IsFresh self.old →
+        ensures links { (inputs : LinkInputs) → IsFresh self.old →
             IsStaticPlan (F.file files.old) plan.now → plan_steps inputs ≡ plan.now.steps.items →
             self.new.end ≡ None → OnOk result (linking_of self.new ≡ linked
             (files_as_inputs (planned_files (F.file files.old) plan.now
             self.old.room.headers)) (map (λ name. name.now) asked.now) inputs) }
+        ensures refused { (inputs : LinkInputs) (end : LinkEnd) → IsFresh self.old →
+            IsStaticPlan (F.file files.old) plan.now → plan_steps inputs ≡ plan.now.steps.items →
+            let all = planned_files (F.file files.old) plan.now self.old.room.headers in
+            self.new.end ≡ Some end → OnOk result (EndsLink all plan.now
+            (linked (files_as_inputs all) (map (λ name. name.now) asked.now) inputs).rows
+            self.new.link.rows.rows end) }
     {
         let taken = self.take_all(files, asked, plan);
         self.list_by_keys();
@@ -175,7 +184,8 @@ impl<'a> Resolver<'a> {
     /// Lists by their keys what the lines of keys name, and marks the rows that those of faults
     /// name.
     fn list_by_keys(&mut self)
-        ensures { linking_of self.new ≡ linking_of self.old }
+        ensures same { linking_of self.new ≡ linking_of self.old }
+        ensures row { self.new.row ≡ self.old.row }
     {
         self.chain_entries();
         self.chain_further();
@@ -189,9 +199,14 @@ impl<'a> Resolver<'a> {
     fn end_with(&mut self, taken: Result<(), LinkFault>) -> Result<(), LinkFault>
         ensures same { linking_of self.new ≡ linking_of self.old }
         ensures ends { self.new.end ≡ None → OnOk result (taken ≡ Ok tt) }
+        ensures refused { (end : LinkEnd) → self.new.end ≡ Some end → OnOk result
+            ((taken ≡ Err (LinkFault.Refused end.refusal)) × (end.row ≡ self.old.row)) }
     {
         match taken {
-            Ok(()) => Ok(()),
+            Ok(()) => {
+                self.end = None;
+                Ok(())
+            }
             Err(LinkFault::Refused(refusal)) => {
                 let row = self.row;
                 self.end = Some(LinkEnd { refusal, row });
@@ -211,11 +226,16 @@ impl<'a> Resolver<'a> {
         asked: &[&str],
         plan: &LinkPlan,
     ) -> Result<(), LinkFault>
-        ensures { (inputs : LinkInputs) → IsFresh self.old →
+        ensures takes { (inputs : LinkInputs) → IsFresh self.old →
             IsStaticPlan (F.file files.old) plan.now → plan_steps inputs ≡ plan.now.steps.items →
             OnOk result (linking_of self.new ≡ linked
             (files_as_inputs (planned_files (F.file files.old) plan.now
             self.old.room.headers)) (map (λ name. name.now) asked.now) inputs) }
+        ensures leaves { (inputs : LinkInputs) → IsFresh self.old →
+            IsStaticPlan (F.file files.old) plan.now → plan_steps inputs ≡ plan.now.steps.items →
+            let all = planned_files (F.file files.old) plan.now self.old.room.headers in
+            LeavesRows all (HasBadScript plan.now) self.new
+            (linked (files_as_inputs all) (map (λ name. name.now) asked.now) inputs).rows result }
     {
         self.take_inputs(files, asked, plan)?;
         self.offer_libraries(files)
@@ -231,11 +251,16 @@ impl<'a> Resolver<'a> {
         asked: &[&str],
         plan: &LinkPlan,
     ) -> Result<(), LinkFault>
-        ensures { (inputs : LinkInputs) → IsFresh self.old →
+        ensures takes { (inputs : LinkInputs) → IsFresh self.old →
             IsStaticPlan (F.file files.old) plan.now → plan_steps inputs ≡ plan.now.steps.items →
             let all = planned_files (F.file files.old) plan.now self.old.room.headers in
             OnOk result (TookAll all self.new
             (linked (files_as_inputs all) (map (λ name. name.now) asked.now) inputs)) }
+        ensures leaves { (inputs : LinkInputs) → IsFresh self.old →
+            IsStaticPlan (F.file files.old) plan.now → plan_steps inputs ≡ plan.now.steps.items →
+            let all = planned_files (F.file files.old) plan.now self.old.room.headers in
+            LeavesRows all (HasBadScript plan.now) self.new
+            (linked (files_as_inputs all) (map (λ name. name.now) asked.now) inputs).rows result }
     {
         self.ask_all(asked)?;
         self.take_steps(files, plan)
@@ -246,7 +271,9 @@ impl<'a> Resolver<'a> {
     /// # Errors
     /// There is no room for one.
     fn ask_all(&mut self, asked: &[&str]) -> Result<(), LinkFault>
-        ensures { OnOk result (AskedNames self.old self.new (map (λ name. name.now) asked.now)) }
+        ensures asks { OnOk result
+            (AskedNames self.old self.new (map (λ name. name.now) asked.now)) }
+        ensures limit { IfErr result (IsLinkFault None) }
     {
         for name in asked {
             self.ask(name.as_bytes())?;
@@ -269,7 +296,9 @@ impl<'a> Resolver<'a> {
     /// # Errors
     /// `TooManyRows` at 0 if there is no room for it.
     pub(crate) fn add_row(&mut self, kind: LinkRowKind, input: u32) -> Result<u32, LinkFault>
-        ensures { IfOk result (AddedRowOf self.old self.new (file_row kind input)) }
+        ensures adds { IfOk result (AddedRowOf self.old self.new (file_row kind input)) }
+        ensures row { IfOk result (λ index. self.new.row ≡ Some index) }
+        ensures limit { IfErr result (IsLinkFault None) }
     {
         let row = LinkRow {
             kind,
