@@ -48,10 +48,15 @@ pub mod SectionTakenLaws
 pub mod LinkedSymbolLaws
 pub mod PlaceLaws
 pub mod OpenedLaws
+pub mod ListRoomLaws
 pub mod ResolvedLaws
 pub mod TakenMemberLaws
 pub mod TakenLaws
 pub mod StepLaws
+pub mod OwnKeyLaws
+pub mod OwnLinkLaws
+pub mod OwnFileLaws
+pub mod ListedLaws
 pub mod BeginLaws
 pub mod SearchStopLaws
 pub mod RefusalLaws

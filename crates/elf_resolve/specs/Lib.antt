@@ -39,5 +39,8 @@ pub mod Plans
 pub mod LinkPlaces
 pub mod OpenedArchives
 pub mod ResolvedInputs
+pub mod KeptLimits
+pub mod ListRooms
+pub mod OwnLinks
 pub mod SearchStops
 pub mod EndsAtRefusal

@@ -1,6 +1,7 @@
 //! The members of an archive that its index asks for.
 ghost use Rattle.std.specs.Prelude.{◌≡◌, IfOk, List, None, OnErr, OnOk, Option, length, ℕ};
 ghost use Rattle.elf_model.specs.LinkPasses.{ArchiveMembers, archive_searched, asks_for as asks_by, entry_visited, index_name, index_passed, is_new as is_new_of, is_taken as is_taken_of, key_of_entry as key_of, member_row as row_of};
+ghost use Rattle.elf_resolve.specs.KeptLimits.{KeepsLimits};
 ghost use Rattle.elf_model.specs.declared.link_states.LinkRefusal.{LinkRefusal};
 ghost use Rattle.elf_resolve.specs.Passing.{Moved, TookObject, searched_archive, pass_of};
 ghost use Rattle.elf_resolve.specs.SearchStops.{AddsMembers};
@@ -159,6 +160,7 @@ pub fn visit_entry<'a, M: ArchiveObjects>(
     ensures visits { M.known members.old → OnOk result (pass_of link.new taken.new
         ≡ entry_visited (searched_archive archive (M.members members.old)) (pass_of link.old taken.old)
         entry) }
+    ensures limits { M.known members.old → OnOk result (KeepsLimits link.old.keys link.new.keys) }
     ensures stops { M.known members.old → AddsMembers (M.refusal members.old)
         (M.stopped members.new) (M.halted members.new) archive.input (length taken.old)
         link.old.rows.rows link.new.rows.rows
@@ -199,6 +201,7 @@ pub fn pass_index<'a, M: ArchiveObjects>(
     ensures passes { M.known members.old → OnOk result (pass_of link.new taken.new
         ≡ index_passed (searched_archive archive (M.members members.old)) (pass_of link.old taken.old)
         entries.now) }
+    ensures limits { M.known members.old → OnOk result (KeepsLimits link.old.keys link.new.keys) }
     ensures stops { M.known members.old → AddsMembers (M.refusal members.old)
         (M.stopped members.new) (M.halted members.new) archive.input (length taken.old)
         link.old.rows.rows link.new.rows.rows
@@ -230,6 +233,7 @@ pub fn search_archive<'a, M: ArchiveObjects>(
     ensures searches { M.known members.old → OnOk result (pass_of link.new taken.new
         ≡ archive_searched (searched_archive archive (M.members members.old)) entries.now
         (pass_of link.old taken.old)) }
+    ensures limits { M.known members.old → OnOk result (KeepsLimits link.old.keys link.new.keys) }
     ensures stops { M.known members.old → AddsMembers (M.refusal members.old)
         (M.stopped members.new) (M.halted members.new) archive.input (length taken.old)
         link.old.rows.rows link.new.rows.rows

@@ -1,5 +1,5 @@
 //! The inputs of a link in their order.
-ghost use Rattle.std.specs.Prelude.{◌≡◌, ◌≢◌, ◌+◌, ◌<◌, ◌∷◌, [], false, ℕ, List, length, map, Err, IfErr, IfOk, OnOk, None, Ok, Some};
+ghost use Rattle.std.specs.Prelude.{◌≡◌, ◌≢◌, ◌+◌, ◌<◌, ◌∷◌, [], false, ℕ, List, get_or, length, map, Err, IfErr, IfOk, OnOk, None, Ok, Some};
 ghost use Rattle.std.specs.List.{slice_get};
 ghost use Rattle.std.proofs.Math.ListN.{set};
 ghost use Rattle.elf_model.specs.LinkArchives.{LinkFiles, files_as_inputs};
@@ -9,9 +9,12 @@ ghost use Rattle.elf_resolve.specs.EndsAtRefusal.{EndsLink, HasBadScript, Leaves
 ghost use Rattle.elf_resolve.specs.Taken.{IsLinkFault};
 ghost use Rattle.elf_resolve.specs.LinkMembers.{file_of_range};
 ghost use Rattle.elf_resolve.specs.LinkPlaces.{IsLinkAt, input_made, is_new_input};
+ghost use Rattle.elf_resolve.specs.ListRooms.{HasListRoom};
+ghost use Rattle.elf_resolve.specs.OwnLinks.{IsOwnLink};
 ghost use Rattle.elf_resolve.specs.Plans.{IsStaticPlan, planned_files, plan_steps};
 ghost use Rattle.elf_resolve.specs.Resolved.{linking_of};
 ghost use Rattle.elf_resolve.specs.ResolvedInputs.{AddedRowOf, AskedNames, IsAtStep, IsFresh, IsLink, IsPlanned, OpenedGroup, TookAll, TookInput};
+ghost use Rattle.elf_resolve.specs.StaticLinks.{AreKeysListed};
 
 use crate::archives::ArchiveTables;
 use crate::key_chains::KeyChains;
@@ -169,6 +172,13 @@ impl<'a> Resolver<'a> {
             self.new.end ≡ None → OnOk result (linking_of self.new ≡ linked
             (files_as_inputs (planned_files (F.file files.old) plan.now
             self.old.room.headers)) (map (λ name. name.now) asked.now) inputs) }
+        ensures listed { (inputs : LinkInputs) → IsFresh self.old →
+            IsStaticPlan (F.file files.old) plan.now → plan_steps inputs ≡ plan.now.steps.items →
+            self.new.end ≡ None → OnOk result (AreKeysListed self.new) }
+        ensures kinds { (inputs : LinkInputs) → IsFresh self.old →
+            IsStaticPlan (F.file files.old) plan.now → plan_steps inputs ≡ plan.now.steps.items →
+            self.new.end ≡ None →
+            OnOk result ((index : ℕ) → get_or self.new.kinds.items index None ≡ None) }
         ensures refused { (inputs : LinkInputs) (end : LinkEnd) → IsFresh self.old →
             IsStaticPlan (F.file files.old) plan.now → plan_steps inputs ≡ plan.now.steps.items →
             let all = planned_files (F.file files.old) plan.now self.old.room.headers in
@@ -185,6 +195,9 @@ impl<'a> Resolver<'a> {
     /// name.
     fn list_by_keys(&mut self)
         ensures same { linking_of self.new ≡ linking_of self.old }
+        ensures kinds { self.new.kinds ≡ self.old.kinds }
+        ensures lists { HasListRoom self.old → IsOwnLink (linking_of self.old) →
+            AreKeysListed self.new }
         ensures row { self.new.row ≡ self.old.row }
     {
         self.chain_entries();
@@ -198,6 +211,7 @@ impl<'a> Resolver<'a> {
     /// A file cannot be opened or read.
     fn end_with(&mut self, taken: Result<(), LinkFault>) -> Result<(), LinkFault>
         ensures same { linking_of self.new ≡ linking_of self.old }
+        ensures rest { self.new ≡ record self.old { end = self.new.end } }
         ensures ends { self.new.end ≡ None → OnOk result (taken ≡ Ok tt) }
         ensures refused { (end : LinkEnd) → self.new.end ≡ Some end → OnOk result
             ((taken ≡ Err (LinkFault.Refused end.refusal)) × (end.row ≡ self.old.row)) }
@@ -226,11 +240,14 @@ impl<'a> Resolver<'a> {
         asked: &[&str],
         plan: &LinkPlan,
     ) -> Result<(), LinkFault>
-        ensures takes { (inputs : LinkInputs) → IsFresh self.old →
+        ensures links { (inputs : LinkInputs) → IsFresh self.old →
             IsStaticPlan (F.file files.old) plan.now → plan_steps inputs ≡ plan.now.steps.items →
             OnOk result (linking_of self.new ≡ linked
             (files_as_inputs (planned_files (F.file files.old) plan.now
             self.old.room.headers)) (map (λ name. name.now) asked.now) inputs) }
+        ensures room { (inputs : LinkInputs) → IsFresh self.old →
+            IsStaticPlan (F.file files.old) plan.now → plan_steps inputs ≡ plan.now.steps.items →
+            OnOk result (HasListRoom self.new) }
         ensures leaves { (inputs : LinkInputs) → IsFresh self.old →
             IsStaticPlan (F.file files.old) plan.now → plan_steps inputs ≡ plan.now.steps.items →
             let all = planned_files (F.file files.old) plan.now self.old.room.headers in

@@ -1,5 +1,6 @@
 use Rattle.std.proofs.Common.{◌≡◌}
 use Rattle.elf_model.specs.LinkPasses.{archive_searched, untaken}
+use Rattle.elf_resolve.specs.KeptLimits.{KeepsLimits}
 use Rattle.elf_resolve.specs.Passing.{PassedTo, searched_archive, pass_of}
 use Rattle.elf_resolve.proofs.SearchStopLaws.{AddedSoFar}
 use Rattle.elf_resolve.proofs.passes.search_archive.Given as goal
@@ -11,6 +12,7 @@ invariant-loop g l =
     × PassedTo (g.M.ArchiveObjects.members l.initial.members) (g.M.ArchiveObjects.members l.members) (g.M.ArchiveObjects.known l.initial.members) (g.M.ArchiveObjects.known l.members)
     (archive_searched (searched_archive l.archive (g.M.ArchiveObjects.members l.initial.members)) l.entries (pass_of l.initial.link l.initial.taken))
     (archive_searched (searched_archive l.archive (g.M.ArchiveObjects.members l.initial.members)) l.entries (pass_of l.link l.taken))
+    × (g.M.ArchiveObjects.known l.initial.members → KeepsLimits l.initial.link.keys l.link.keys)
     × AddedSoFar (g.M.ArchiveObjects.known l.initial.members) (g.M.ArchiveObjects.refusal l.initial.members) (g.M.ArchiveObjects.refusal l.members) l.archive.input l.initial.link.rows.rows l.link.rows.rows
 
 abbrev pub decreases-loop : goal.decreases-loop

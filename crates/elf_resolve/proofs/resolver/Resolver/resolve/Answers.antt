@@ -1,14 +1,41 @@
-use Rattle.std.proofs.Common.{◌∙◌}
-use Rattle.elf_resolve.proofs.TakenMemberLaws.{on_ok, on_ok_then}
-use Rattle.std.proofs.Common.{ap}
-use Rattle.elf_model.specs.LinkInputs.{Linking}
+use Rattle.std.proofs.Common.{List, ℕ, None, ap, get_or, map, sym, subst, ◌∙◌}
+use Rattle.std.specs.Borrow.{Bor}
+use Rattle.elf_model.specs.LinkArchives.{files_as_inputs}
+use Rattle.elf_resolve.specs.ListRooms.{HasListRoom}
+use Rattle.elf_resolve.specs.OwnLinks.{IsOwnLink}
 use Rattle.elf_resolve.specs.Plans.{planned_files}
+use Rattle.elf_resolve.specs.declared.resolver.Resolver.{Resolver}
+use Rattle.elf_resolve.proofs.ListedLaws.{listed_ended}
+use Rattle.elf_resolve.proofs.OwnFileLaws.{files_own}
+use Rattle.elf_resolve.proofs.OwnLinkLaws.{linked_own}
+use Rattle.elf_resolve.proofs.TakenMemberLaws.{on_ok, on_ok_then}
+use Rattle.elf_model.specs.LinkInputs.{Linking}
 use Rattle.elf_resolve.proofs.LinkEndLaws.{taken_ends}
 use Rattle.elf_resolve.proofs.resolver.Resolver.resolve.Goals as goal
 
 pub returns-clause-links : goal.returns-clause-links
 returns-clause-links g c = λ inputs fresh static steps ends.
-    on_ok_then _ _ c.end_with.result (λ was. c.end_with.ensures.same ∙ c.list_by_keys.ensures.same ∙ on_ok _ _ _ was (c.take_all-taken.ensures.takes inputs fresh static steps)) (c.end_with.ensures.ends ends)
+    on_ok_then _ _ c.end_with.result (λ was. c.end_with.ensures.same ∙ c.list_by_keys.ensures.same ∙ on_ok _ _ _ was (c.take_all-taken.ensures.links inputs fresh static steps)) (c.end_with.ensures.ends ends)
+
+pub returns-clause-listed : goal.returns-clause-listed
+returns-clause-listed g c = λ inputs fresh static steps ends.
+    let all = planned_files (g.F.InputFiles.file c.args.files.now) c.args.plan.now c.args.self.now.room.headers in
+    let names = map (λ (a : Bor (List ℕ)). a.now) c.args.asked.now in
+    on_ok_then _ _ c.end_with.result (λ was.
+    let made = on_ok _ _ _ was (c.take_all-taken.ensures.links inputs fresh static steps) in
+    let own = subst (λ l. IsOwnLink l) (sym made) (linked_own (files_as_inputs all) names inputs (files_own all)) in
+    listed_ended c.list_by_keys.new.self c.end_with.new.self c.end_with.ensures.rest
+    (c.list_by_keys.ensures.lists (on_ok _ _ _ was (c.take_all-taken.ensures.room inputs fresh static steps)) own)) (c.end_with.ensures.ends ends)
+
+pub returns-clause-kinds : goal.returns-clause-kinds
+returns-clause-kinds g c = λ inputs fresh static steps ends.
+    on_ok_then _ _ c.end_with.result
+    (λ was.
+    let room : HasListRoom c.take_all-taken.new.self = on_ok _ _ _ was (c.take_all-taken.ensures.room inputs fresh static steps) in
+    λ index.
+    ap (λ (r : Resolver). get_or r.kinds.items index None) c.end_with.ensures.rest
+    ∙ ap (λ v. get_or v.items index None) c.list_by_keys.ensures.kinds
+    ∙ room.kinds index) (c.end_with.ensures.ends ends)
 
 pub returns-clause-refused : goal.returns-clause-refused
 returns-clause-refused g c = λ inputs end fresh static steps ends.
