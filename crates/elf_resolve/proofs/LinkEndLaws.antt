@@ -53,3 +53,8 @@ pub taken_ends : (files : LinkFiles) (plan : LinkPlan) (link new : Resolver) (wh
 taken_ends files plan link new whole end r is row_is rows leaves =
     subst (λ l. EndsLink files plan whole l end) (sym rows)
     (link_ends files plan whole link.link.rows.rows link.row end row_is (subst (λ q. LeavesRows files (HasBadScript plan) link whole q) is leaves))
+
+-- a link of which nothing more is taken
+pub leaves_ended : (files : LinkFiles) (is_script : Type 0) (link new : Resolver) (whole : List LinkRow) (r : Result (Unit {0}) LinkFault) → new ≡ link → r ≡ Ok tt → NoneRefused files link.link.rows.rows → LeavesRows files is_script new whole r
+leaves_ended files is_script link new whole (Ok done) same is none = subst (λ (n : Resolver). NoneRefused files n.link.rows.rows) (sym same) none
+leaves_ended files is_script link new whole (Err fault) same is none = absurd cc

@@ -35,5 +35,5 @@ returns-then-asked-before-clause-stops g c = λ known.
 pub returns-in_err-pass_index-clause-stops : goal.returns-in_err-pass_index-clause-stops
 returns-in_err-pass_index-clause-stops g c = λ known.
     let p = err_from_is_err_and c.from_residual.result c.from_residual.ensures.1 in
-    rw (p.1, p.2) (stops_after _ _ _ _ _ c.args.archive.input _ _ c.pass_index.new.link.rows.rows _ _ _ _ _ _ _ c.loop.invariant.3 c.loop.invariant.1.known
+    rw (p.1, p.2) (stops_after _ _ _ _ (g.M.ArchiveObjects.refusal c.pass_index.new.members) c.args.archive.input _ _ c.pass_index.new.link.rows.rows _ _ _ _ _ _ _ c.loop.invariant.3 c.loop.invariant.1.known
     (λ k. pass_within c.args.archive _ _ _ _ _ _ c.args.entries.now c.loop.invariant.1 k) c.loop.auto.taken c.in_err-pass_index.ensures.stops known)
