@@ -57,3 +57,10 @@ pub mod OwnKeyLaws
 pub mod OwnLinkLaws
 pub mod OwnFileLaws
 pub mod ListedLaws
+pub mod BeginLaws
+pub mod SearchStopLaws
+pub mod RefusalLaws
+pub mod SearchEndLaws
+pub mod StopLaws
+pub mod StopMemberLaws
+pub mod LinkEndLaws

@@ -200,7 +200,7 @@ archive_read file is_whole input row r0 r1 r3 r4 walked first entries count last
     }
 
 -- A WHOLE ARCHIVE
-opened_rows : (files : LinkFiles) (file : List ℕ) (input : ℕ) (old new : Resolver) (archive : OpenedArchive) → IsLink files old → OpenedAs file true input old new archive → linking_of new ≡ with_row (linking_of old) (file_row Archive input)
+pub opened_rows : (files : LinkFiles) (file : List ℕ) (input : ℕ) (old new : Resolver) (archive : OpenedArchive) → IsLink files old → OpenedAs file true input old new archive → linking_of new ≡ with_row (linking_of old) (file_row Archive input)
 opened_rows files file input old new archive is opened =
     let entries : new.tables.entries.items ≡ old.tables.entries.items ++ [] = ap (λ v. v.items) opened.index.1 ∙ sym (append-nil old.tables.entries.items) in
     let archives = maps_more files old.tables.members.items old.tables.entries.items [] old.taken.items (replicate (length (link_members file).members) false) 0 old.tables.archives.items is.marked is.opened in
@@ -336,7 +336,7 @@ kept_link files file seen input old opened_link new archive is at opened kept no
     }
 
 -- the archive and the link when it is searched first
-first_archive : (files : LinkFiles) (file : List ℕ) (input : ℕ) (old opened_link new : Resolver) (archive : OpenedArchive) → IsLink files old → (opened : OpenedAs file false input old opened_link archive) → KeptArchive opened_link new archive
+pub first_archive : (files : LinkFiles) (file : List ℕ) (input : ℕ) (old opened_link new : Resolver) (archive : OpenedArchive) → IsLink files old → (opened : OpenedAs file false input old opened_link archive) → KeptArchive opened_link new archive
     → open_archive new.tables.entries.items new.taken.items archive ≡ record {
       input = input;
       row = length old.link.rows.rows;
@@ -360,7 +360,7 @@ first_archive files file input old opened_link new archive is opened kept =
     let row_is : archive.row ≡ length old.link.rows.rows = ap (λ (a : OpenedArchive). a.row) opened.archive_is in
     cc
 
-first_link : (files : LinkFiles) (file : List ℕ) (input : ℕ) (old opened_link new : Resolver) (archive : OpenedArchive) → IsLink files old → (opened : OpenedAs file false input old opened_link archive) → KeptArchive opened_link new archive
+pub first_link : (files : LinkFiles) (file : List ℕ) (input : ℕ) (old opened_link new : Resolver) (archive : OpenedArchive) → IsLink files old → (opened : OpenedAs file false input old opened_link archive) → KeptArchive opened_link new archive
     → (let entered = index_entered (record { keys = old.link.keys.keys; entries = [] }) opened.index.symbols in
     linking_of new ≡ record {
       keys = entered.keys;

@@ -160,7 +160,7 @@ pub archive_found : (files : LinkFiles) (old : Resolver) (i k : ℕ) → IsLink 
     → (a : OpenedArchive) × (slice_get old.tables.archives.items k ≡ Some a) × (archive_of_input old.tables.archives.items i ≡ Some a)
 archive_found files old i k is at = subst (λ (s : Option InputState). IsInputState s old.tables.archives.items i) at (is.states i)
 
-again_searched : (link : Linking) (i : ℕ) (a : OpenArchive) (file : InputFile) (count : ℕ) (symbols : List IndexSymbol) (members : ArchiveMembers) → opened_at link.archives i ≡ Some a → file ≡ SearchedFile count symbols members
+pub again_searched : (link : Linking) (i : ℕ) (a : OpenArchive) (file : InputFile) (count : ℕ) (symbols : List IndexSymbol) (members : ArchiveMembers) → opened_at link.archives i ≡ Some a → file ≡ SearchedFile count symbols members
     → input_again link i file ≡ archive_again link a members
 unfolding input_again
 again_searched link i a file count symbols members found is = ap (λ f. input_again link i f) is ∙ ap (λ o. again_at link o members) found

@@ -34,7 +34,7 @@ range_has file members all here archive are has range =
 pub members_of_file : (known : Option (List ℕ)) (file : List ℕ) (headers : ℕ) → known ≡ Some file → members_by_file known headers ≡ members_as_objects file (link_members file).members headers
 members_of_file known file headers is = ap (λ k. members_by_file k headers) is
 
-file_of : (one other : List ℕ) (known : Option (List ℕ)) → known ≡ Some one → known ≡ Some other → one ≡ other
+pub file_of : (one other : List ℕ) (known : Option (List ℕ)) → known ≡ Some one → known ≡ Some other → one ≡ other
 file_of one other known is is_other = let both : Some one ≡ Some other = sym is ∙ is_other in cc
 
 pub search_has : (files : LinkFiles) (file : List ℕ) (old : Resolver) (archive : OpenedArchive) → IsLink files old → archive_of_input old.tables.archives.items archive.input ≡ Some archive → files.file archive.input ≡ Some file
@@ -104,7 +104,7 @@ pub on_ok : {T E : Type 0} → (P : Type 0) (r : Result T E) (x : T) → r ≡ O
 on_ok P r x is holds = subst (λ q. OnOk q P) is holds
 
 -- ALL MEMBERS ARE TAKEN, one after another
-whole_step : (i r : ℕ) (link : Linking) (file : List ℕ) (n : ℕ) (m : LinkMember) (rest : List LinkMember) (headers : ℕ)
+pub whole_step : (i r : ℕ) (link : Linking) (file : List ℕ) (n : ℕ) (m : LinkMember) (rest : List LinkMember) (headers : ℕ)
     → members_taken i r link (whole_members file n (m ∷ rest) headers) ≡ members_taken i r (members_taken i r link (whole_members file n (m ∷ []) headers)) (whole_members file (n + 1) rest headers)
 whole_step i r link file n m rest headers = by (is_archive_index file m.header || is_name_table file m.header) where
   by : (no_file : Bool) → members_taken i r link (if no_file then whole_members file (n + 1) rest headers else (n, or_empty (object_of (bytes_in file m.extent) headers)) ∷ whole_members file (n + 1) rest headers)

@@ -46,3 +46,5 @@ pub mod LibrarySymbols
 pub mod VersionTexts
 pub mod KeyMarks
 pub mod LibraryNeeds
+pub mod SearchStops
+pub mod EndsAtRefusal

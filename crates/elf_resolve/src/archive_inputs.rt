@@ -1,5 +1,5 @@
 //! The archives among the inputs of a link, and which of their members are taken.
-ghost use Rattle.std.specs.Prelude.{◌≡◌, ◌≤◌, ◌++◌, ℕ, List, [], ◌∷◌, OnOk, IfOk, IsErr, None, Some, drop, false, length, map, replicate};
+ghost use Rattle.std.specs.Prelude.{◌≡◌, ◌≤◌, ◌++◌, ℕ, List, [], ◌∷◌, Err, OnOk, IfErr, IfOk, IsErr, None, Some, drop, false, length, map, replicate};
 ghost use Rattle.std.specs.List.{slice_get};
 ghost use Rattle.elf_model.specs.Archive.{bytes_in};
 ghost use Rattle.elf_model.specs.LinkArchives.{LinkFiles, LinkMember, files_as_inputs, link_members, member_bytes, members_as_objects, members_refusal, or_empty, whole_members};
@@ -12,7 +12,10 @@ ghost use Rattle.elf_resolve.specs.Passing.{TookObject, pass_of};
 ghost use Rattle.elf_resolve.specs.Ranges.{IsRangeOf};
 ghost use Rattle.elf_resolve.specs.Resolved.{elements_in, linking_of, open_archive};
 ghost use Rattle.elf_resolve.specs.ResolvedInputs.{EntersIndex, IsArchiveAt, IsLink, KeepsArchives, KeptArchive, OpenedAs, TookInput, TookMembers};
-ghost use Rattle.elf_resolve.specs.Taken.{header_of};
+ghost use Rattle.elf_model.specs.declared.link_states.LinkRow.{LinkRow};
+ghost use Rattle.elf_resolve.specs.EndsAtRefusal.{IsFaultOfIndex, LeavesRows, NoneRefused, StopsLink};
+ghost use Rattle.elf_resolve.specs.SearchStops.{EndsSearch, StopsWith};
+ghost use Rattle.elf_resolve.specs.Taken.{IsLinkFault, header_of};
 
 use crate::archive_index::read_index;
 use crate::archive_searches::{
@@ -38,10 +41,14 @@ impl Resolver<'_> {
         is_whole: bool,
         input: u32,
     ) -> Result<(), LinkFault>
-        ensures { (files : LinkFiles) (file : List ℕ) → IsLink files self.old →
+        ensures takes { (files : LinkFiles) (file : List ℕ) → IsLink files self.old →
             IsArchiveAt files file self.old src.old.seen is_whole input →
             OnOk result (TookInput files self.old self.new input
             (input_taken (linking_of self.old) input (files_as_inputs files input))) }
+        ensures leaves { (files : LinkFiles) (file : List ℕ) → IsLink files self.old →
+            IsArchiveAt files file self.old src.old.seen is_whole input →
+            NoneRefused files self.old.link.rows.rows → LeavesRows files ⊥ self.new
+            (input_taken (linking_of self.old) input (files_as_inputs files input)).rows result }
     {
         let archive = self.open_archive(src, is_whole, input)?;
         if is_whole {
@@ -66,6 +73,11 @@ impl Resolver<'_> {
         ensures opens { (file : List ℕ) → src.old.seen.file ≡ Some file →
             length self.old.taken.items ≡ length self.old.tables.members.items →
             IfOk result (OpenedAs file is_whole input self.old self.new) }
+        ensures stops { (files : LinkFiles) (file : List ℕ) →
+            IsArchiveAt files file self.old src.old.seen is_whole input →
+            NoneRefused files self.old.link.rows.rows → IfErr result
+            (StopsLink files ⊥ self.new.link.rows.rows (input_taken (linking_of self.old) input
+            (files_as_inputs files input)).rows self.new.row) }
     {
         let row = self.add_row(LinkRowKind::Archive, input)?;
         let first = self.tables.members.len();
@@ -91,6 +103,7 @@ impl Resolver<'_> {
         ensures same { self.new ≡ record self.old { taken = self.new.taken } }
         ensures marks { OnOk result
             (self.new.taken.items ≡ self.old.taken.items ++ replicate count false) }
+        ensures limit { IfErr result (IsLinkFault None) }
     {
         add_marks(&mut self.taken, count)
     }
@@ -108,10 +121,15 @@ impl Resolver<'_> {
     ) -> Result<(), LinkFault>
         ensures below { src.new.seen.whole ≡ src.old.seen.whole }
         ensures keeps { KeepsArchives self.old self.new }
+        ensures row { self.new.row ≡ self.old.row }
         ensures enters { (file : List ℕ) → src.old.seen.file ≡ Some file →
             drop first self.old.tables.members.items ≡ map header_of (link_members file).members →
             first ≤ length self.old.tables.members.items → members_refusal file ≡ None →
             OnOk result (EntersIndex is_whole file self.old self.new) }
+        ensures fails { (file : List ℕ) → src.old.seen.file ≡ Some file →
+            drop first self.old.tables.members.items ≡ map header_of (link_members file).members →
+            first ≤ length self.old.tables.members.items → members_refusal file ≡ None →
+            IfErr result (IsFaultOfIndex is_whole file) }
     {
         if is_whole {
             return Ok(());
@@ -126,7 +144,8 @@ impl Resolver<'_> {
     /// # Errors
     /// There is no room for it.
     fn keep_archive(&mut self, archive: OpenedArchive) -> Result<(), LinkFault>
-        ensures { OnOk result (KeptArchive self.old self.new archive) }
+        ensures keeps { OnOk result (KeptArchive self.old self.new archive) }
+        ensures limit { IfErr result (IsLinkFault None) }
     {
         let index = self.tables.archives.len();
         self.set_state(archive.input, InputState::Archive(index));
@@ -154,6 +173,15 @@ impl Resolver<'_> {
             OnOk result (TookMembers self.old self.new (archive_again (linking_of self.old)
             (open_archive self.old.tables.entries.items self.old.taken.items a)
             (members_as_objects file (link_members file).members all.headers))) }
+        ensures leaves { (all : LinkFiles) (a : OpenedArchive) (file : List ℕ) →
+            IsLink all self.old →
+            slice_get self.old.tables.archives.items archive ≡ Some a →
+            archive_of_input self.old.tables.archives.items a.input ≡ Some a →
+            all.file a.input ≡ Some file → F.file files.old a.input ≡ Some file →
+            NoneRefused all self.old.link.rows.rows →
+            LeavesRows all ⊥ self.new (archive_again (linking_of self.old)
+            (open_archive self.old.tables.entries.items self.old.taken.items a)
+            (members_as_objects file (link_members file).members all.headers)).rows result }
     {
         let Some(archive) = element_at(&self.tables.archives, archive) else {
             return Ok(());
@@ -173,12 +201,19 @@ impl Resolver<'_> {
         src: &mut Counted<RangeSource<S>>,
         archive: OpenedArchive,
     ) -> Result<(), LinkFault>
-        ensures { (files : LinkFiles) (file : List ℕ) → IsLink files self.old →
+        ensures searches { (files : LinkFiles) (file : List ℕ) → IsLink files self.old →
             archive_of_input self.old.tables.archives.items archive.input ≡ Some archive →
             files.file archive.input ≡ Some file → file_of_range src.old.seen ≡ Some file →
             OnOk result (TookMembers self.old self.new (archive_again (linking_of self.old)
             (open_archive self.old.tables.entries.items self.old.taken.items archive)
             (members_as_objects file (link_members file).members files.headers))) }
+        ensures leaves { (files : LinkFiles) (file : List ℕ) → IsLink files self.old →
+            archive_of_input self.old.tables.archives.items archive.input ≡ Some archive →
+            files.file archive.input ≡ Some file → file_of_range src.old.seen ≡ Some file →
+            NoneRefused files self.old.link.rows.rows →
+            LeavesRows files ⊥ self.new (archive_again (linking_of self.old)
+            (open_archive self.old.tables.entries.items self.old.taken.items archive)
+            (members_as_objects file (link_members file).members files.headers)).rows result }
     {
         let found = search_members(
             &mut self.link,
@@ -205,21 +240,45 @@ impl Resolver<'_> {
         fault: Option<LinkFault>,
         asked: Option<u32>,
     ) -> Result<(), LinkFault>
-        ensures { IsErr result }
+        ensures fails { IsErr result }
+        ensures stops { (files : LinkFiles) (file : List ℕ) (old whole : List LinkRow) →
+            EndsSearch files.headers file archive.input old self.old.link.rows.rows whole fault
+            asked (Err stop) → files.file archive.input ≡ Some file → NoneRefused files old →
+            LeavesRows files ⊥ self.new whole result }
     {
         self.row = None;
-        if matches!(stop, LinkStop::TooManyRows) {
-            return refused(0, LinkCause::TooManyRows);
+        match stop {
+            LinkStop::TooManyRows => refused(0, LinkCause::TooManyRows),
+            LinkStop::Full(_) => self.stopped_at(archive, fault, asked),
+            LinkStop::Unreadable => self.stopped_at(archive, fault, asked),
         }
+    }
+
+    /// Returns the fault that a search kept, and keeps the row of the member that has it: the last
+    /// row, or that of a member that was only asked for a definition.
+    ///
+    /// # Errors
+    /// That fault.
+    fn stopped_at(
+        &mut self,
+        archive: OpenedArchive,
+        fault: Option<LinkFault>,
+        asked: Option<u32>,
+    ) -> Result<(), LinkFault>
+        ensures fails { IsErr result }
+        ensures stops { (files : LinkFiles) (file : List ℕ) (old whole : List LinkRow) →
+            StopsWith files.headers file archive.input old self.old.link.rows.rows whole fault
+            asked → files.file archive.input ≡ Some file → NoneRefused files old →
+            LeavesRows files ⊥ self.new whole result }
+    {
         let Some(fault) = fault else {
             return Err(LinkFault::Read);
         };
-        if let Some(member) = asked {
-            let row = member_row(archive, member);
-            self.row = self.link.rows.add(row);
-        } else {
+        let Some(member) = asked else {
             self.row = self.link.rows.len().checked_sub(1);
-        }
+            return Err(fault);
+        };
+        self.row = self.link.rows.add(member_row(archive, member));
         Err(fault)
     }
 
@@ -232,11 +291,20 @@ impl Resolver<'_> {
         src: &mut Counted<RangeSource<S>>,
         archive: OpenedArchive,
     ) -> Result<(), LinkFault>
-        ensures { (file : List ℕ) → file_of_range src.old.seen ≡ Some file →
+        ensures takes { (file : List ℕ) → file_of_range src.old.seen ≡ Some file →
             HasMembers file self.old.tables.members.items archive →
             OnOk result (TookMembers self.old self.new (members_taken archive.input archive.row
             (linking_of self.old)
             (whole_members file 0 (link_members file).members self.old.room.headers))) }
+        ensures leaves { (files : LinkFiles) (file : List ℕ) →
+            file_of_range src.old.seen ≡ Some file →
+            HasMembers file self.old.tables.members.items archive →
+            files.headers ≡ self.old.room.headers → files.file archive.input ≡ Some file →
+            NoneRefused files self.old.link.rows.rows →
+            LeavesRows files ⊥ self.new (members_taken archive.input archive.row
+            (linking_of self.old)
+            (whole_members file 0 (link_members file).members self.old.room.headers)).rows
+            result }
     {
         let count = range_of(&self.tables.members, archive.members).len();
         let Ok(count) = u32::try_from(count) else {
@@ -264,6 +332,15 @@ impl Resolver<'_> {
             slice_get (link_members file).members member ≡ Some m →
             OnOk result (TookMembers self.old self.new (members_taken archive.input archive.row
             (linking_of self.old) (whole_members file member (m ∷ []) self.old.room.headers))) }
+        ensures leaves { (files : LinkFiles) (file : List ℕ) (m : LinkMember) →
+            file_of_range src.old.seen ≡ Some file →
+            HasMembers file self.old.tables.members.items archive →
+            slice_get (link_members file).members member ≡ Some m →
+            files.headers ≡ self.old.room.headers → files.file archive.input ≡ Some file →
+            NoneRefused files self.old.link.rows.rows →
+            LeavesRows files ⊥ self.new (members_taken archive.input archive.row
+            (linking_of self.old) (whole_members file member (m ∷ []) self.old.room.headers)).rows
+            result }
     {
         let members = range_of(&self.tables.members, archive.members);
         let is_taken = is_file(src, members, member)?;
@@ -290,6 +367,15 @@ impl Resolver<'_> {
             OnOk result (TookMembers self.old self.new (with_object (linking_of self.old)
             (whole_row archive.input archive.row member)
             (or_empty (object_of (bytes_in file m.extent) self.old.room.headers)))) }
+        ensures leaves { (files : LinkFiles) (file : List ℕ) (m : LinkMember) →
+            file_of_range src.old.seen ≡ Some file →
+            HasMembers file self.old.tables.members.items archive →
+            slice_get (link_members file).members member ≡ Some m →
+            files.headers ≡ self.old.room.headers → files.file archive.input ≡ Some file →
+            NoneRefused files self.old.link.rows.rows →
+            LeavesRows files ⊥ self.new (with_object (linking_of self.old)
+            (whole_row archive.input archive.row member)
+            (or_empty (object_of (bytes_in file m.extent) self.old.room.headers))).rows result }
     {
         let row = self.link.rows.add(member_row(archive, member));
         self.row = row;

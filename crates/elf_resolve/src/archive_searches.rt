@@ -1,5 +1,5 @@
 //! The members of an open archive that are taken, by its index or each by itself.
-ghost use Rattle.std.specs.Prelude.{◌≡◌, ◌≤◌, ◌++◌, ℕ, List, [], ◌∷◌, OnOk, IfOk, IsErr, Some, drop, false, length, map, replicate};
+ghost use Rattle.std.specs.Prelude.{◌≡◌, ◌≤◌, ◌++◌, ℕ, List, [], ◌∷◌, OnOk, IfErr, IfOk, IsErr, None, Some, drop, false, length, map, replicate};
 ghost use Rattle.std.specs.List.{slice_get};
 ghost use Rattle.elf_model.specs.Archive.{bytes_in};
 ghost use Rattle.elf_model.specs.LinkArchives.{LinkFiles, LinkMember, files_as_inputs, link_members, member_bytes, members_as_objects, or_empty, whole_members};
@@ -7,13 +7,14 @@ ghost use Rattle.elf_model.specs.LinkInputs.{archive_again, input_taken, members
 ghost use Rattle.elf_model.specs.LinkPasses.{archive_searched};
 ghost use Rattle.elf_model.specs.LinkSymbols.{object_of};
 ghost use Rattle.elf_resolve.specs.KeptLimits.{KeepsLimits};
-ghost use Rattle.elf_resolve.specs.LinkMembers.{file_of_range};
+ghost use Rattle.elf_resolve.specs.LinkMembers.{TakesMember, file_of_range};
 ghost use Rattle.elf_resolve.specs.OpenedArchives.{HasMembers, SameOutside, archive_in, archive_of_input};
 ghost use Rattle.elf_resolve.specs.Passing.{TookObject, pass_of};
 ghost use Rattle.elf_resolve.specs.Ranges.{IsRangeOf};
 ghost use Rattle.elf_resolve.specs.Resolved.{elements_in, linking_of, open_archive};
 ghost use Rattle.elf_resolve.specs.ResolvedInputs.{EntersIndex, IsArchiveAt, IsLink, KeepsArchives, KeptArchive, OpenedAs, TookInput, TookMembers};
-ghost use Rattle.elf_resolve.specs.Taken.{header_of};
+ghost use Rattle.elf_resolve.specs.SearchStops.{EndsSearch};
+ghost use Rattle.elf_resolve.specs.Taken.{IsLinkFault, header_of};
 
 use crate::archives::{ArchiveTables, OpenedArchive};
 use crate::link_faults::{LinkFault, refused};
@@ -29,7 +30,8 @@ use elf_source::{Counted, RangeSource, Source};
 /// # Errors
 /// There is no room for them.
 pub(crate) fn add_marks(taken: &mut Vec<bool>, count: usize) -> Result<(), LinkFault>
-    ensures { OnOk result (taken.new.items ≡ taken.old.items ++ replicate count false) }
+    ensures marks { OnOk result (taken.new.items ≡ taken.old.items ++ replicate count false) }
+    ensures limit { IfErr result (IsLinkFault None) }
 {
     for added in 0..count {
         if taken.push(false).is_err() {
@@ -65,6 +67,10 @@ pub(crate) fn take_member<S: Source>(
         OnOk result (TookObject
         (or_empty (object_of (member_bytes file (link_members file).members place.member)
         room.old.headers)) keys.old keys.new place.row) }
+    ensures stops { (files : LinkFiles) (file : List ℕ) → file_of_range src.old.seen ≡ Some file →
+        HasMembers file tables.now.members.items place.archive →
+        files.headers ≡ room.old.headers →
+        TakesMember files file place.member place.row keys.old keys.new result }
 {
     let members = range_of(&tables.members, place.archive.members);
     let mut objects = MembersOfArchive {
@@ -111,6 +117,15 @@ pub(crate) fn search_members<S: Source>(
     ensures limits { (file : List ℕ) → file_of_range src.old.seen ≡ Some file →
         HasMembers file tables.now.members.items archive →
         OnOk result.ended (KeepsLimits link.old.keys link.new.keys) }
+    ensures stops { (file : List ℕ) → file_of_range src.old.seen ≡ Some file →
+        HasMembers file tables.now.members.items archive →
+        IsRangeOf archive.members.0 archive.members.1 (length taken.old) →
+        IsRangeOf archive.entries.0 archive.entries.1 (length tables.now.entries.items) →
+        EndsSearch room.old.headers file archive.input link.old.rows.rows link.new.rows.rows
+        (archive_searched (archive_in archive file room.old.headers)
+        (elements_in tables.now.entries.items archive.entries)
+        (pass_of link.old (elements_in taken.old archive.members))).rows
+        result.fault result.asked result.ended }
 {
     let members = range_of(&tables.members, archive.members);
     let entries = range_of(&tables.entries, archive.entries);

@@ -1,10 +1,12 @@
 //! The inputs of a link that are taken for the first time.
-ghost use Rattle.std.specs.Prelude.{◌≡◌, ◌≢◌, ◌+◌, ◌<◌, ◌∷◌, [], false, ℕ, List, length, map, IfOk, OnOk, None, Ok, Some};
+ghost use Rattle.std.specs.Prelude.{◌≡◌, ◌≢◌, ◌+◌, ◌<◌, ◌∷◌, [], false, ℕ, List, length, map, IfErr, IfOk, OnOk, None, Ok, Some};
 ghost use Rattle.std.specs.List.{slice_get};
 ghost use Rattle.std.proofs.Math.ListN.{set};
 ghost use Rattle.elf_model.specs.LinkArchives.{LinkFiles, files_as_inputs};
 ghost use Rattle.elf_model.specs.LinkInputs.{LinkInputs, Linking, file_row, input_taken, linked, with_arguments};
 ghost use Rattle.elf_source.specs.Prelude.{IsWholeRange};
+ghost use Rattle.elf_resolve.specs.EndsAtRefusal.{LeavesRows, NoneRefused};
+ghost use Rattle.elf_resolve.specs.Taken.{IsLinkFault};
 ghost use Rattle.elf_resolve.specs.LinkMembers.{file_of_range};
 ghost use Rattle.elf_resolve.specs.LinkPlaces.{IsLinkAt, input_made, is_new_input};
 ghost use Rattle.elf_resolve.specs.Plans.{IsStaticPlan, planned_files, plan_steps};
@@ -36,6 +38,12 @@ impl Resolver<'_> {
             slice_get self.old.states.items index ≡ Some InputState.New →
             OnOk result (TookInput all self.old self.new index
             (input_taken (linking_of self.old) index (files_as_inputs all index))) }
+        ensures leaves { (all : LinkFiles) → IsPlanned all (F.file files.old) index input →
+            IsLink all self.old →
+            slice_get self.old.states.items index ≡ Some InputState.New →
+            NoneRefused all self.old.link.rows.rows →
+            LeavesRows all (input.kind ≡ InputKind.BadScript) self.new
+            (input_taken (linking_of self.old) index (files_as_inputs all index)).rows result }
     {
         self.set_state(index, InputState::Done);
         self.take_kind(files, input, index)
@@ -57,6 +65,12 @@ impl Resolver<'_> {
             slice_get self.old.states.items index ≡ Some InputState.Done →
             OnOk result (TookInput all self.old self.new index
             (input_taken (linking_of self.old) index (files_as_inputs all index))) }
+        ensures leaves { (all : LinkFiles) → IsPlanned all (F.file files.old) index input →
+            IsLink all self.old →
+            slice_get self.old.states.items index ≡ Some InputState.Done →
+            NoneRefused all self.old.link.rows.rows →
+            LeavesRows all (input.kind ≡ InputKind.BadScript) self.new
+            (input_taken (linking_of self.old) index (files_as_inputs all index)).rows result }
     {
         match input.kind {
             InputKind::Missing => {
@@ -90,6 +104,12 @@ impl Resolver<'_> {
             slice_get self.old.states.items index ≡ Some InputState.Done →
             OnOk result (TookInput all self.old self.new index
             (input_taken (linking_of self.old) index (files_as_inputs all index))) }
+        ensures leaves { (all : LinkFiles) (file : List ℕ) →
+            IsPlanned all (F.file files.old) index input →
+            F.file files.old index ≡ Some file → all.file index ≡ Some file → IsLink all self.old →
+            slice_get self.old.states.items index ≡ Some InputState.Done →
+            NoneRefused all self.old.link.rows.rows → LeavesRows all ⊥ self.new
+            (input_taken (linking_of self.old) index (files_as_inputs all index)).rows result }
     {
         let mut src = self.open(files, index)?;
         let taken = self.take_file(files, &mut src, input, index);
@@ -110,6 +130,7 @@ impl Resolver<'_> {
         ensures file { F.file files.new ≡ F.file files.old }
         ensures opens { (file : List ℕ) → F.file files.old input ≡ Some file → IfOk result
             (λ src. (src.seen.file ≡ Some file) × (file_of_range src.seen ≡ Some file)) }
+        ensures limit { IfErr result (IsLinkFault None) }
     {
         match files.open(input) {
             Ok(source) => {
@@ -140,12 +161,20 @@ impl Resolver<'_> {
         input: LinkInput,
         index: u32,
     ) -> Result<(), LinkFault>
-        ensures { (all : LinkFiles) (file : List ℕ) → IsPlanned all (F.file files.now) index input →
+        ensures takes { (all : LinkFiles) (file : List ℕ) →
+            IsPlanned all (F.file files.now) index input →
             IsLink all self.old → src.old.seen.file ≡ Some file →
             file_of_range src.old.seen ≡ Some file → all.file index ≡ Some file →
             slice_get self.old.states.items index ≡ Some InputState.Done →
             OnOk result (TookInput all self.old self.new index
             (input_taken (linking_of self.old) index (files_as_inputs all index))) }
+        ensures leaves { (all : LinkFiles) (file : List ℕ) →
+            IsPlanned all (F.file files.now) index input →
+            IsLink all self.old → src.old.seen.file ≡ Some file →
+            file_of_range src.old.seen ≡ Some file → all.file index ≡ Some file →
+            slice_get self.old.states.items index ≡ Some InputState.Done →
+            NoneRefused all self.old.link.rows.rows → LeavesRows all ⊥ self.new
+            (input_taken (linking_of self.old) index (files_as_inputs all index)).rows result }
     {
         match input.kind {
             InputKind::Archive => self.take_archive(src, input.is_whole, index),
@@ -184,12 +213,17 @@ impl Resolver<'_> {
     /// # Errors
     /// The first fault of the file.
     fn take_one<S: Source>(&mut self, src: &mut Counted<S>, index: u32) -> Result<(), LinkFault>
-        ensures { (all : LinkFiles) (file : List ℕ) → IsLink all self.old →
+        ensures takes { (all : LinkFiles) (file : List ℕ) → IsLink all self.old →
             src.old.seen.file ≡ Some file → all.file index ≡ Some file →
             all.is_archive index ≡ false →
             slice_get self.old.states.items index ≡ Some InputState.Done →
             OnOk result (TookInput all self.old self.new index
             (input_taken (linking_of self.old) index (files_as_inputs all index))) }
+        ensures leaves { (all : LinkFiles) (file : List ℕ) → IsLink all self.old →
+            src.old.seen.file ≡ Some file → all.file index ≡ Some file →
+            all.is_archive index ≡ false →
+            NoneRefused all self.old.link.rows.rows → LeavesRows all ⊥ self.new
+            (input_taken (linking_of self.old) index (files_as_inputs all index)).rows result }
     {
         let row = self.add_row(LinkRowKind::Object, index)?;
         take_object(src, &mut self.room, &mut self.link.keys, row)

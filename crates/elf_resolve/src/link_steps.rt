@@ -1,10 +1,12 @@
 //! The steps of a link: its inputs in order, and groups of them.
-ghost use Rattle.std.specs.Prelude.{◌≡◌, ◌≢◌, ◌+◌, ◌<◌, ◌∷◌, [], false, ℕ, List, length, map, IfOk, OnOk, None, Ok, Some};
+ghost use Rattle.std.specs.Prelude.{◌≡◌, ◌≢◌, ◌+◌, ◌<◌, ◌∷◌, [], false, ℕ, List, length, map, IfErr, IfOk, OnOk, None, Ok, Some};
 ghost use Rattle.std.specs.List.{slice_get};
 ghost use Rattle.std.proofs.Math.ListN.{set};
 ghost use Rattle.elf_model.specs.LinkArchives.{LinkFiles, files_as_inputs};
 ghost use Rattle.elf_model.specs.LinkInputs.{LinkInputs, Linking, file_row, input_taken, linked, with_arguments};
 ghost use Rattle.elf_source.specs.Prelude.{IsWholeRange};
+ghost use Rattle.elf_resolve.specs.EndsAtRefusal.{HasBadScript, LeavesRows, NoneRefused};
+ghost use Rattle.elf_resolve.specs.Taken.{IsLinkFault};
 ghost use Rattle.elf_resolve.specs.LinkMembers.{file_of_range};
 ghost use Rattle.elf_resolve.specs.LinkPlaces.{IsLinkAt, input_made, is_new_input};
 ghost use Rattle.elf_resolve.specs.Plans.{IsStaticPlan, planned_files, plan_steps};
@@ -27,9 +29,15 @@ impl Resolver<'_> {
         files: &mut F,
         plan: &LinkPlan,
     ) -> Result<(), LinkFault>
-        ensures { (headers : ℕ) (whole : Linking) → IsStaticPlan (F.file files.old) plan.now →
+        ensures takes { (headers : ℕ) (whole : Linking) →
+            IsStaticPlan (F.file files.old) plan.now →
             let all = planned_files (F.file files.old) plan.now headers in
             IsAtStep all plan.now whole self.old 0 → OnOk result (TookAll all self.new whole) }
+        ensures leaves { (headers : ℕ) (whole : Linking) →
+            IsStaticPlan (F.file files.old) plan.now →
+            let all = planned_files (F.file files.old) plan.now headers in
+            IsAtStep all plan.now whole self.old 0 → NoneRefused all self.old.link.rows.rows →
+            LeavesRows all (HasBadScript plan.now) self.new whole.rows result }
     {
         let count = plan.steps.len();
         let mut place = 0;
@@ -61,6 +69,12 @@ impl Resolver<'_> {
             let all = planned_files (F.file files.old) plan.now headers in
             IsAtStep all plan.now whole self.old place →
             IfOk result (IsAtStep all plan.now whole self.new) }
+        ensures leaves { (headers : ℕ) (whole : Linking) →
+            IsStaticPlan (F.file files.old) plan.now →
+            let all = planned_files (F.file files.old) plan.now headers in
+            IsAtStep all plan.now whole self.old place →
+            NoneRefused all self.old.link.rows.rows →
+            LeavesRows all (HasBadScript plan.now) self.new whole.rows result }
     {
         let Some(step) = element_at(&plan.steps, place) else {
             return Err(LinkFault::Read);
@@ -84,7 +98,9 @@ impl Resolver<'_> {
     /// # Errors
     /// There is no room for it.
     fn open_group(&mut self, first: usize) -> Result<(), LinkFault>
-        ensures { OnOk result (OpenedGroup self.old self.new first) }
+        ensures opens { OnOk result (OpenedGroup self.old self.new first) }
+        ensures rows { self.new.link ≡ self.old.link }
+        ensures limit { IfErr result (IsLinkFault None) }
     {
         let asked = self.link.keys.asked();
         if self.groups.push(OpenGroup { first, asked }).is_err() {
@@ -99,7 +115,9 @@ impl Resolver<'_> {
     /// # Errors
     /// There is no room for another round.
     fn close_group(&mut self, next: usize) -> Result<usize, LinkFault>
-        ensures { (files : LinkFiles) (plan : LinkPlan) (whole : Linking) (place : ℕ) →
+        ensures rows { self.new.link ≡ self.old.link }
+        ensures limit { IfErr result (IsLinkFault None) }
+        ensures closes { (files : LinkFiles) (plan : LinkPlan) (whole : Linking) (place : ℕ) →
             next ≡ place + 1 → slice_get plan.steps.items place ≡ Some LinkStep.Close →
             IsAtStep files plan whole self.old place →
             IfOk result (IsAtStep files plan whole self.new) }
@@ -130,6 +148,12 @@ impl Resolver<'_> {
             IsLink all self.old → OnOk result (TookInput all self.old self.new input
             (input_made (is_new_input self.old.states.items input) (linking_of self.old) input
             (files_as_inputs all input))) }
+        ensures leaves { (headers : ℕ) → IsStaticPlan (F.file files.old) plan.now →
+            let all = planned_files (F.file files.old) plan.now headers in
+            IsLink all self.old → NoneRefused all self.old.link.rows.rows →
+            LeavesRows all (HasBadScript plan.now) self.new
+            (input_made (is_new_input self.old.states.items input) (linking_of self.old) input
+            (files_as_inputs all input)).rows result }
     {
         let Some(known) = element_at(&plan.inputs, input as usize) else {
             return Err(LinkFault::Open);

@@ -1,5 +1,5 @@
 //! The members of an archive, as objects of a link.
-ghost use Rattle.std.specs.Prelude.{◌≡◌, ◌↔◌, ◌+◌, ◌-◌, ◌≤◌, ◌<◌, ◌||◌, ◌∷◌, [], true, false, IfOk, IsSome, IsTrue, OnErr, OnOk, List, ℕ, Option, None, Ok, Some, bytes_eq, get_or, length, map};
+ghost use Rattle.std.specs.Prelude.{◌≡◌, ◌↔◌, ◌+◌, ◌-◌, ◌≤◌, ◌<◌, ◌||◌, ◌∷◌, [], true, false, IfErr, IfOk, IsSome, IsTrue, OnErr, OnOk, List, ℕ, Option, None, Ok, Some, bytes_eq, get_or, length, map};
 ghost use Rattle.elf_archive.specs.Members.{extent_of_names};
 ghost use Rattle.elf_model.specs.Bytes.{slice};
 ghost use Rattle.elf_model.specs.LinkArchives.{LinkFiles, link_members};
@@ -11,6 +11,7 @@ ghost use Rattle.elf_source.specs.Prelude.{KeepsSource};
 ghost use Rattle.elf_resolve.specs.LinkMembers.{KnownMembers, TakesMember, file_of_range, members_by_file, range_before};
 ghost use Rattle.elf_resolve.specs.ObjectNames.{FindsInObject, definition_at};
 ghost use Rattle.elf_resolve.specs.ObjectTables.{HoldsSymbols, HoldsTables};
+ghost use Rattle.elf_resolve.specs.SearchStops.{KeepsFault, KeepsLimit, bytes_known, refusal_in};
 ghost use Rattle.elf_resolve.specs.StringBuffers.{HoldsText};
 ghost use Rattle.elf_resolve.specs.Taken.{FindsDefinition, IsLimit, IsLinkFault, header_of};
 
@@ -123,6 +124,9 @@ impl<S: Source> MembersOfArchive<'_, S> {
             (extent_of_names self.old.archive.names)) → IfOk result (λ is_defined. is_defined
             ≡ (members_by_file (Some known.file) self.old.room.now.headers).defines entry.member
             (index_name keys.now.keys entry)) }
+        ensures fails { (known : KnownMembers self.old.src.now.seen.whole self.old.members.now
+            (extent_of_names self.old.archive.names)) → IfErr result (λ fault.
+            entry.member < length self.old.members.now → IsLinkFault None fault) }
     {
         let at = place_of(self.members, entry.member)?;
         self.src.widen();
@@ -167,13 +171,22 @@ impl<S: Source> ArchiveObjects for MembersOfArchive<'_, S> {
     ghost known = { λ s. KnownMembers s.src.now.seen.whole s.members.now
         (extent_of_names s.archive.names) };
 
-    ghost kept = { λ s. s.src.ghost_name ∷ s.room.ghost_name ∷ s.room.now.headers ∷ [] };
+    ghost kept = { λ s. s.src.ghost_name ∷ s.room.ghost_name ∷ s.room.now.headers
+        ∷ bytes_known (file_of_range s.src.now.seen) };
+
+    ghost refusal = { λ s. refusal_in (file_of_range s.src.now.seen) s.room.now.headers };
+
+    ghost stopped = { λ s. KeepsFault (file_of_range s.src.now.seen) s.room.now.headers s.fault
+        s.asked };
+
+    ghost halted = { λ s. KeepsLimit (length s.members.now) s.fault };
 
     fn take<'a>(&mut self, member: u32, row: u32, keys: &mut KeyTable<'a>) -> Result<(), LinkStop> {
         match self.take_member(member, row, keys) {
             Ok(()) => Ok(()),
             Err(fault) => {
                 self.fault = Some(fault);
+                self.asked = None;
                 Err(LinkStop::Unreadable)
             }
         }

@@ -1,5 +1,5 @@
 //! The shared libraries of a link, and which of them are needed.
-ghost use Rattle.std.specs.Prelude.{◌≡◌, [], length};
+ghost use Rattle.std.specs.Prelude.{◌≡◌, [], length, Ok};
 
 use crate::asked_libraries::{open_library, reopen_library};
 use crate::libraries::LinkLibrary;
@@ -124,7 +124,8 @@ impl Resolver<'_> {
     /// # Errors
     /// One cannot be opened; the first fault of one; there is no room.
     pub(crate) fn offer_libraries<F: InputFiles>(&mut self, files: &mut F) -> Result<(), LinkFault>
-        ensures { self.old.libraries.libraries.items ≡ [] → self.new ≡ self.old }
+        ensures same { self.old.libraries.libraries.items ≡ [] → self.new ≡ self.old }
+        ensures done { self.old.libraries.libraries.items ≡ [] → result ≡ Ok tt }
     {
         let count = self.libraries.len();
         if count == 0 {

@@ -1,8 +1,10 @@
 //! The members of an archive that its index asks for.
-ghost use Rattle.std.specs.Prelude.{◌≡◌, IfOk, List, OnOk, ℕ};
+ghost use Rattle.std.specs.Prelude.{◌≡◌, IfOk, List, None, OnErr, OnOk, Option, length, ℕ};
 ghost use Rattle.elf_model.specs.LinkPasses.{ArchiveMembers, archive_searched, asks_for as asks_by, entry_visited, index_name, index_passed, is_new as is_new_of, is_taken as is_taken_of, key_of_entry as key_of, member_row as row_of};
 ghost use Rattle.elf_resolve.specs.KeptLimits.{KeepsLimits};
+ghost use Rattle.elf_model.specs.declared.link_states.LinkRefusal.{LinkRefusal};
 ghost use Rattle.elf_resolve.specs.Passing.{Moved, TookObject, searched_archive, pass_of};
+ghost use Rattle.elf_resolve.specs.SearchStops.{AddsMembers};
 
 use crate::rows::RowTable;
 use crate::table::{KeyTable, LinkStop};
@@ -27,13 +29,20 @@ pub struct ArchiveInput {
 }
 
 /// The objects that are the members of an archive. What is promised of them is promised if they are
-/// `known`; what is `kept` stays the same.
+/// `known`; what is `kept` stays the same. A fault is that of a member for which it has `stopped`, or
+/// one of a limit or the system if it has `halted` there.
 pub trait ArchiveObjects {
     ghost members: { Self → ArchiveMembers };
 
     ghost known: { Self → Type 0 };
 
     ghost kept: { Self → List ℕ };
+
+    ghost refusal: { Self → ℕ → Option LinkRefusal };
+
+    ghost stopped: { Self → ℕ → Type 0 };
+
+    ghost halted: { Self → ℕ → Type 0 };
 
     /// Takes the groups and the symbols of a member, which has the row `row`.
     ///
@@ -42,6 +51,9 @@ pub trait ArchiveObjects {
     fn take<'a>(&mut self, member: u32, row: u32, keys: &mut KeyTable<'a>) -> Result<(), LinkStop>
         ensures takes { known self.old
             → OnOk result (TookObject ((members self.old).objects member) keys.old keys.new row) }
+        ensures accepts { known self.old → OnOk result (refusal self.old member ≡ None) }
+        ensures stops { known self.old → OnErr result (stopped self.new member) }
+        ensures same_refusal { refusal self.new ≡ refusal self.old }
         ensures same { members self.new ≡ members self.old }
         ensures kept { kept self.new ≡ kept self.old }
         ensures known { known self.old → known self.new };
@@ -54,6 +66,8 @@ pub trait ArchiveObjects {
     fn defines<'a>(&mut self, entry: IndexEntry, keys: &KeyTable<'a>) -> Result<bool, LinkStop>
         ensures defines { known self.old → IfOk result (λ is_defined. is_defined
             ≡ (members self.old).defines entry.member (index_name keys.now.keys entry)) }
+        ensures halts { known self.old → OnErr result (halted self.new entry.member) }
+        ensures same_refusal { refusal self.new ≡ refusal self.old }
         ensures same { members self.new ≡ members self.old }
         ensures kept { kept self.new ≡ kept self.old }
         ensures known { known self.old → known self.new };
@@ -100,6 +114,8 @@ fn asks_for<'a, M: ArchiveObjects>(
 ) -> Result<bool, LinkStop>
     ensures asks { M.known members.old → IfOk result
         (λ asks. asks ≡ asks_by (M.members members.old) keys.now.keys entry) }
+    ensures halts { M.known members.old → OnErr result (M.halted members.new entry.member) }
+    ensures same_refusal { M.refusal members.new ≡ M.refusal members.old }
     ensures same { M.members members.new ≡ M.members members.old }
     ensures kept { M.kept members.new ≡ M.kept members.old }
     ensures known { M.known members.old → M.known members.new }
@@ -145,6 +161,12 @@ pub fn visit_entry<'a, M: ArchiveObjects>(
         ≡ entry_visited (searched_archive archive (M.members members.old)) (pass_of link.old taken.old)
         entry) }
     ensures limits { M.known members.old → OnOk result (KeepsLimits link.old.keys link.new.keys) }
+    ensures stops { M.known members.old → AddsMembers (M.refusal members.old)
+        (M.stopped members.new) (M.halted members.new) archive.input (length taken.old)
+        link.old.rows.rows link.new.rows.rows
+        (entry_visited (searched_archive archive (M.members members.old))
+        (pass_of link.old taken.old) entry).rows result }
+    ensures same_refusal { M.refusal members.new ≡ M.refusal members.old }
     ensures same { M.members members.new ≡ M.members members.old }
     ensures kept { M.kept members.new ≡ M.kept members.old }
     ensures known { M.known members.old → M.known members.new }
@@ -180,6 +202,12 @@ pub fn pass_index<'a, M: ArchiveObjects>(
         ≡ index_passed (searched_archive archive (M.members members.old)) (pass_of link.old taken.old)
         entries.now) }
     ensures limits { M.known members.old → OnOk result (KeepsLimits link.old.keys link.new.keys) }
+    ensures stops { M.known members.old → AddsMembers (M.refusal members.old)
+        (M.stopped members.new) (M.halted members.new) archive.input (length taken.old)
+        link.old.rows.rows link.new.rows.rows
+        (index_passed (searched_archive archive (M.members members.old))
+        (pass_of link.old taken.old) entries.now).rows result }
+    ensures same_refusal { M.refusal members.new ≡ M.refusal members.old }
     ensures same { M.members members.new ≡ M.members members.old }
     ensures kept { M.kept members.new ≡ M.kept members.old }
     ensures known { M.known members.old → M.known members.new }
@@ -206,6 +234,12 @@ pub fn search_archive<'a, M: ArchiveObjects>(
         ≡ archive_searched (searched_archive archive (M.members members.old)) entries.now
         (pass_of link.old taken.old)) }
     ensures limits { M.known members.old → OnOk result (KeepsLimits link.old.keys link.new.keys) }
+    ensures stops { M.known members.old → AddsMembers (M.refusal members.old)
+        (M.stopped members.new) (M.halted members.new) archive.input (length taken.old)
+        link.old.rows.rows link.new.rows.rows
+        (archive_searched (searched_archive archive (M.members members.old)) entries.now
+        (pass_of link.old taken.old)).rows result }
+    ensures same_refusal { M.refusal members.new ≡ M.refusal members.old }
     ensures same { M.members members.new ≡ M.members members.old }
     ensures kept { M.kept members.new ≡ M.kept members.old }
     ensures known { M.known members.old → M.known members.new }

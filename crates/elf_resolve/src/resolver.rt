@@ -1,10 +1,12 @@
 //! The inputs of a link in their order.
-ghost use Rattle.std.specs.Prelude.{◌≡◌, ◌≢◌, ◌+◌, ◌<◌, ◌∷◌, [], false, ℕ, List, get_or, length, map, IfOk, OnOk, None, Ok, Some};
+ghost use Rattle.std.specs.Prelude.{◌≡◌, ◌≢◌, ◌+◌, ◌<◌, ◌∷◌, [], false, ℕ, List, get_or, length, map, Err, IfErr, IfOk, OnOk, None, Ok, Some};
 ghost use Rattle.std.specs.List.{slice_get};
 ghost use Rattle.std.proofs.Math.ListN.{set};
 ghost use Rattle.elf_model.specs.LinkArchives.{LinkFiles, files_as_inputs};
 ghost use Rattle.elf_model.specs.LinkInputs.{LinkInputs, Linking, file_row, input_taken, linked, with_arguments};
 ghost use Rattle.elf_source.specs.Prelude.{IsWholeRange};
+ghost use Rattle.elf_resolve.specs.EndsAtRefusal.{EndsLink, HasBadScript, LeavesRows};
+ghost use Rattle.elf_resolve.specs.Taken.{IsLinkFault};
 ghost use Rattle.elf_resolve.specs.LinkMembers.{file_of_range};
 ghost use Rattle.elf_resolve.specs.LinkPlaces.{IsLinkAt, input_made, is_new_input};
 ghost use Rattle.elf_resolve.specs.ListRooms.{HasListRoom};
@@ -146,7 +148,8 @@ impl<'a> Resolver<'a> {
     /// There is no room for it.
     #[tactic(auto, unfolding(elf_model::specs::LinkKeys::symbol_taken))]
     pub fn ask(&mut self, name: &[u8]) -> Result<(), LinkFault>
-        ensures { OnOk result (AskedNames self.old self.new (name.now ∷ [])) }
+        ensures asks { OnOk result (AskedNames self.old self.new (name.now ∷ [])) }
+        ensures limit { IfErr result (IsLinkFault None) }
     {
         match self.link.keys.use_name(name, ASKED, None) {
             Ok(()) => Ok(()),
@@ -176,6 +179,12 @@ impl<'a> Resolver<'a> {
             IsStaticPlan (F.file files.old) plan.now → plan_steps inputs ≡ plan.now.steps.items →
             self.new.end ≡ None →
             OnOk result ((index : ℕ) → get_or self.new.kinds.items index None ≡ None) }
+        ensures refused { (inputs : LinkInputs) (end : LinkEnd) → IsFresh self.old →
+            IsStaticPlan (F.file files.old) plan.now → plan_steps inputs ≡ plan.now.steps.items →
+            let all = planned_files (F.file files.old) plan.now self.old.room.headers in
+            self.new.end ≡ Some end → OnOk result (EndsLink all plan.now
+            (linked (files_as_inputs all) (map (λ name. name.now) asked.now) inputs).rows
+            self.new.link.rows.rows end) }
     {
         let taken = self.take_all(files, asked, plan);
         self.list_by_keys();
@@ -189,6 +198,7 @@ impl<'a> Resolver<'a> {
         ensures kinds { self.new.kinds ≡ self.old.kinds }
         ensures lists { HasListRoom self.old → IsOwnLink (linking_of self.old) →
             AreKeysListed self.new }
+        ensures row { self.new.row ≡ self.old.row }
     {
         self.chain_entries();
         self.chain_further();
@@ -203,9 +213,14 @@ impl<'a> Resolver<'a> {
         ensures same { linking_of self.new ≡ linking_of self.old }
         ensures rest { self.new ≡ record self.old { end = self.new.end } }
         ensures ends { self.new.end ≡ None → OnOk result (taken ≡ Ok tt) }
+        ensures refused { (end : LinkEnd) → self.new.end ≡ Some end → OnOk result
+            ((taken ≡ Err (LinkFault.Refused end.refusal)) × (end.row ≡ self.old.row)) }
     {
         match taken {
-            Ok(()) => Ok(()),
+            Ok(()) => {
+                self.end = None;
+                Ok(())
+            }
             Err(LinkFault::Refused(refusal)) => {
                 let row = self.row;
                 self.end = Some(LinkEnd { refusal, row });
@@ -233,6 +248,11 @@ impl<'a> Resolver<'a> {
         ensures room { (inputs : LinkInputs) → IsFresh self.old →
             IsStaticPlan (F.file files.old) plan.now → plan_steps inputs ≡ plan.now.steps.items →
             OnOk result (HasListRoom self.new) }
+        ensures leaves { (inputs : LinkInputs) → IsFresh self.old →
+            IsStaticPlan (F.file files.old) plan.now → plan_steps inputs ≡ plan.now.steps.items →
+            let all = planned_files (F.file files.old) plan.now self.old.room.headers in
+            LeavesRows all (HasBadScript plan.now) self.new
+            (linked (files_as_inputs all) (map (λ name. name.now) asked.now) inputs).rows result }
     {
         self.take_inputs(files, asked, plan)?;
         self.offer_libraries(files)
@@ -248,11 +268,16 @@ impl<'a> Resolver<'a> {
         asked: &[&str],
         plan: &LinkPlan,
     ) -> Result<(), LinkFault>
-        ensures { (inputs : LinkInputs) → IsFresh self.old →
+        ensures takes { (inputs : LinkInputs) → IsFresh self.old →
             IsStaticPlan (F.file files.old) plan.now → plan_steps inputs ≡ plan.now.steps.items →
             let all = planned_files (F.file files.old) plan.now self.old.room.headers in
             OnOk result (TookAll all self.new
             (linked (files_as_inputs all) (map (λ name. name.now) asked.now) inputs)) }
+        ensures leaves { (inputs : LinkInputs) → IsFresh self.old →
+            IsStaticPlan (F.file files.old) plan.now → plan_steps inputs ≡ plan.now.steps.items →
+            let all = planned_files (F.file files.old) plan.now self.old.room.headers in
+            LeavesRows all (HasBadScript plan.now) self.new
+            (linked (files_as_inputs all) (map (λ name. name.now) asked.now) inputs).rows result }
     {
         self.ask_all(asked)?;
         self.take_steps(files, plan)
@@ -263,7 +288,9 @@ impl<'a> Resolver<'a> {
     /// # Errors
     /// There is no room for one.
     fn ask_all(&mut self, asked: &[&str]) -> Result<(), LinkFault>
-        ensures { OnOk result (AskedNames self.old self.new (map (λ name. name.now) asked.now)) }
+        ensures asks { OnOk result
+            (AskedNames self.old self.new (map (λ name. name.now) asked.now)) }
+        ensures limit { IfErr result (IsLinkFault None) }
     {
         for name in asked {
             self.ask(name.as_bytes())?;
@@ -286,7 +313,9 @@ impl<'a> Resolver<'a> {
     /// # Errors
     /// `TooManyRows` at 0 if there is no room for it.
     pub(crate) fn add_row(&mut self, kind: LinkRowKind, input: u32) -> Result<u32, LinkFault>
-        ensures { IfOk result (AddedRowOf self.old self.new (file_row kind input)) }
+        ensures adds { IfOk result (AddedRowOf self.old self.new (file_row kind input)) }
+        ensures row { IfOk result (λ index. self.new.row ≡ Some index) }
+        ensures limit { IfErr result (IsLinkFault None) }
     {
         let row = LinkRow {
             kind,

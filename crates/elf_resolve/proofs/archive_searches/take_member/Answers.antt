@@ -14,3 +14,10 @@ returns-clause-takes g c = λ file known has.
     record { file = file; is = known; unrefused = are.unrefused; offsets_are = are.offsets_are; names_are = are.names_are } in
     let files : LinkFiles = record { file = λ input. None; is_archive = λ input. false; is_whole = λ input. false; headers = c.args.room.now.headers } in
     took_object files file c.args.place.member c.args.place.row c.args.keys.now c.take_member.new.keys c.take_member.result (c.take_member.ensures.takes files refl members)
+
+pub returns-clause-stops : goal.returns-clause-stops
+returns-clause-stops g c = λ files file known has headers.
+    let are = range_has file c.args.tables.now.members.items c.deref.result.now c.range_of-members.result.now c.args.place.archive c.deref.ensures.value has c.range_of-members.ensures in
+    let members : KnownMembers c.args.src.now.seen.whole c.range_of-members.result.now (extent_of_names c.args.place.archive.names) =
+    record { file = file; is = known; unrefused = are.unrefused; offsets_are = are.offsets_are; names_are = are.names_are } in
+    c.take_member.ensures.takes files headers members

@@ -2,6 +2,7 @@ use Rattle.std.proofs.Common.{◌≡◌, take}
 use Rattle.elf_model.specs.LinkPasses.{index_passed}
 use Rattle.elf_resolve.specs.KeptLimits.{KeepsLimits}
 use Rattle.elf_resolve.specs.Passing.{Moved, PassedTo, searched_archive, pass_of}
+use Rattle.elf_resolve.proofs.SearchStopLaws.{AddedSoFar}
 use Rattle.elf_resolve.proofs.passes.pass_index.Given as goal
 
 abbrev pub invariant-loop-i : goal.invariant-loop-i
@@ -11,3 +12,4 @@ invariant-loop-i g l =
     (index_passed (searched_archive l.archive (g.M.ArchiveObjects.members l.initial.members)) (pass_of l.initial.link l.initial.taken) (take l.i l.entries)) (pass_of l.link l.taken)
     × (g.M.ArchiveObjects.kept l.members ≡ g.M.ArchiveObjects.kept l.initial.members)
     × (g.M.ArchiveObjects.known l.initial.members → KeepsLimits l.initial.link.keys l.link.keys)
+    × AddedSoFar (g.M.ArchiveObjects.known l.initial.members) (g.M.ArchiveObjects.refusal l.initial.members) (g.M.ArchiveObjects.refusal l.members) l.archive.input l.initial.link.rows.rows l.link.rows.rows

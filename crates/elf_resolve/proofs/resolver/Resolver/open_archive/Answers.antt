@@ -5,6 +5,13 @@ use Rattle.elf_model.specs.LinkArchives.{link_members}
 use Rattle.elf_resolve.specs.Taken.{header_of}
 use Rattle.elf_resolve.specs.declared.resolver.Resolver.{Resolver}
 use Rattle.elf_resolve.proofs.ResolvedLaws.{archive_read}
+use Rattle.std.proofs.Common.{[], ◌∷◌}
+use Rattle.std.specs.Prelude.{Some}
+use Rattle.std.proofs.lemmas.Result.{err_from_is_err_and}
+use Rattle.elf_model.specs.LinkInputs.{file_row}
+use Rattle.elf_model.specs.declared.link_states.LinkRowKind.TheVariants.{Archive}
+use Rattle.elf_resolve.proofs.RefusalLaws.{limit_stops}
+use Rattle.elf_resolve.proofs.StopLaws.{index_stops, members_stop}
 use Rattle.elf_resolve.proofs.resolver.Resolver.open_archive.Goals as goal
 
 pub returns-clause-opens : goal.returns-clause-opens
@@ -18,6 +25,44 @@ returns-clause-opens g c = λ file seen marked.
     ap (λ l. drop c.len-first.result l) now ∙ ap (λ n. drop n (r1.tables.members.items ++ hs)) first ∙ drop-append_seam r1.tables.members.items hs in
     let fits : c.len-first.result ≤ length c.mark_members.new.self.tables.members.items = omega (arith, ap length now, first, length-append r1.tables.members.items hs) in
     archive_read file c.args.is_whole c.args.input c.in_ok-row.row c.args.self.now r1 c.mark_members.new.self c.read_names.new.self c.walk.new.self c.len-first.result c.len-entries.result c.len-count.result c.len.result c.in_ok-names.names
-    c.in_ok-row.ensures walk c.in_ok-names.ensures.archives c.in_ok-names.ensures.entries c.in_ok-names.ensures.limit c.mark_members.ensures.same (c.in_ok-mark_members.ensures.marks ∙ ap (λ n. r1.taken.items ++ replicate n false) c.saturating_sub.ensures) first (c.len-entries.ensures ∙ r1.tables.entries.ok.0)
+    c.in_ok-row.ensures.adds walk c.in_ok-names.ensures.archives c.in_ok-names.ensures.entries c.in_ok-names.ensures.limit c.mark_members.ensures.same (c.in_ok-mark_members.ensures.marks ∙ ap (λ n. r1.taken.items ++ replicate n false) c.saturating_sub.ensures) first (c.len-entries.ensures ∙ r1.tables.entries.ok.0)
     (c.len-count.ensures ∙ c.walk.new.self.members.ok.0) (c.len.ensures ∙ c.read_names.new.self.tables.entries.ok.0)
     c.in_ok-read_names.ensures.keeps (c.in_ok-read_names.ensures.enters file (c.in_ok-names.ensures.keeps.same_file ∙ seen) dropped fits walk.whole)
+
+pub returns-in_err-row-clause-stops : goal.returns-in_err-row-clause-stops
+returns-in_err-row-clause-stops g c = λ files file at none.
+    let p = err_from_is_err_and c.from_residual.result c.from_residual.ensures.1 in
+    rw (p.1, p.2) (limit_stops files ⊥ _ _ _ c.in_err-row.field-0.0 c.in_err-row.ensures.limit)
+
+pub returns-in_err-names-clause-stops : goal.returns-in_err-names-clause-stops
+returns-in_err-names-clause-stops g c = λ files file at none.
+    let p = err_from_is_err_and c.from_residual-in_err-names.result c.from_residual-in_err-names.ensures.1 in
+    let added = c.in_ok-row.ensures.adds in
+    rw (p.1, p.2) (members_stop files file c.args.self.now c.args.src.now.seen c.args.is_whole c.args.input at c.add_row.new.self.link.rows.rows c.add_row.new.self.row c.in_err-names.field-0.0 none added.added.rows
+    (c.in_ok-row.ensures.row ∙ ap (λ n. Some n) added.added.index_is) (c.in_err-names.ensures.walks file at.seen_is))
+
+pub returns-in_err-mark_members-clause-stops : goal.returns-in_err-mark_members-clause-stops
+returns-in_err-mark_members-clause-stops g c = λ files file at none.
+    let p = err_from_is_err_and c.from_residual-in_err-mark_members.result c.from_residual-in_err-mark_members.ensures.1 in
+    rw (p.1, p.2) (limit_stops files ⊥ _ _ _ c.in_err-mark_members.field-0.0 c.in_err-mark_members.ensures.limit)
+
+pub returns-in_err-read_names-clause-stops : goal.returns-in_err-read_names-clause-stops
+returns-in_err-read_names-clause-stops g c = λ files file at none.
+    let p = err_from_is_err_and c.from_residual-in_err-read_names.result c.from_residual-in_err-read_names.ensures.1 in
+    let added = c.in_ok-row.ensures.adds in
+    let walk = c.in_ok-names.ensures.walks file at.seen_is in
+    let r1 = c.add_row.new.self in
+    let marked = c.mark_members.new.self in
+    let now = c.read_names.new.self in
+    let hs = map header_of (link_members file).members in
+    let first = c.len-first.ensures ∙ r1.tables.members.ok.0 in
+    let members : marked.tables.members.items ≡ r1.tables.members.items ++ hs = ap (λ (r : Resolver). r.tables.members.items) c.mark_members.ensures.same ∙ walk.members in
+    let dropped : drop c.len-first.result marked.tables.members.items ≡ hs =
+    ap (λ l. drop c.len-first.result l) members ∙ ap (λ n. drop n (r1.tables.members.items ++ hs)) first ∙ drop-append_seam r1.tables.members.items hs in
+    let fits : c.len-first.result ≤ length marked.tables.members.items = omega (arith, ap length members, first, length-append r1.tables.members.items hs) in
+    let rows : now.link.rows.rows ≡ c.args.self.now.link.rows.rows ++ file_row Archive c.args.input ∷ [] =
+    ap (λ r. r.rows) c.in_err-read_names.ensures.keeps.rows ∙ ap (λ (r : Resolver). r.link.rows.rows) c.mark_members.ensures.same ∙ added.added.rows in
+    let row : now.row ≡ Some (length c.args.self.now.link.rows.rows) =
+    c.in_err-read_names.ensures.row ∙ ap (λ (r : Resolver). r.row) c.mark_members.ensures.same ∙ c.in_ok-row.ensures.row ∙ ap (λ n. Some n) added.added.index_is in
+    rw (p.1, p.2) (index_stops files file c.args.self.now c.args.src.now.seen c.args.is_whole c.args.input at now.link.rows.rows now.row c.in_err-read_names.field-0.0 none rows row walk.whole
+    (c.in_err-read_names.ensures.fails file (c.in_ok-names.ensures.keeps.same_file ∙ at.seen_is) dropped fits walk.whole))

@@ -1,5 +1,12 @@
 use Rattle.elf_resolve.proofs.TakenMemberLaws.{on_ok_then}
 use Rattle.elf_resolve.proofs.TakenLaws.{reached_done, reached_link, reached_took}
+use Rattle.std.proofs.Common.{refl, sym, ap, subst}
+use Rattle.elf_model.specs.LinkArchives.{files_as_inputs}
+use Rattle.elf_model.specs.LinkInputs.{input_taken}
+use Rattle.elf_resolve.specs.EndsAtRefusal.{NoneRefused}
+use Rattle.elf_resolve.specs.Resolved.{linking_of}
+use Rattle.elf_resolve.specs.declared.resolver.Resolver.{Resolver}
+use Rattle.elf_resolve.proofs.StopLaws.{leaves_as}
 use Rattle.elf_resolve.proofs.resolver.Resolver.take_input.Goals as goal
 
 pub returns-clause-takes : goal.returns-clause-takes
@@ -8,3 +15,11 @@ returns-clause-takes g c = λ all planned is is_new.
     on_ok_then _ _ c.take_kind.result (reached_took all c.args.self.now marked c.take_kind.new.self c.args.index c.set_state.ensures.same c.set_state.ensures.sets)
     (c.take_kind.ensures.takes all planned (reached_link all c.args.self.now marked c.args.index is is_new c.set_state.ensures.same c.set_state.ensures.sets)
     (reached_done c.args.self.now marked c.args.index is_new c.set_state.ensures.sets))
+
+pub returns-clause-leaves : goal.returns-clause-leaves
+returns-clause-leaves g c = λ all planned is is_new none.
+    let marked = c.set_state.new.self in
+    let same = c.set_state.ensures.same in
+    leaves_as all _ c.take_kind.new.self c.take_kind.new.self _ _ c.take_kind.result refl refl (ap (λ (r : Resolver). (input_taken (linking_of r) c.args.index (files_as_inputs all c.args.index)).rows) same)
+    (c.take_kind.ensures.leaves all planned (reached_link all c.args.self.now marked c.args.index is is_new same c.set_state.ensures.sets) (reached_done c.args.self.now marked c.args.index is_new c.set_state.ensures.sets)
+    (subst (λ (r : Resolver). NoneRefused all r.link.rows.rows) (sym same) none))

@@ -2,10 +2,28 @@ use Rattle.std.proofs.Common.{refl, map, List, ℕ}
 use Rattle.std.specs.Borrow.{Bor}
 use Rattle.elf_resolve.specs.Plans.{planned_files}
 use Rattle.elf_resolve.proofs.StepLaws.{step_starts}
+use Rattle.std.proofs.Common.{sym, ap, subst, ◌∙◌}
+use Rattle.std.proofs.lemmas.Result.{err_from_is_err_and}
+use Rattle.elf_resolve.specs.EndsAtRefusal.{NoneRefused}
+use Rattle.elf_resolve.specs.declared.resolver.Resolver.{Resolver}
+use Rattle.elf_resolve.proofs.RefusalLaws.{limit_stops}
 use Rattle.elf_resolve.proofs.resolver.Resolver.take_inputs.Goals as goal
 
-pub returns : goal.returns
-returns g c = λ inputs fresh static steps.
+pub returns-clause-takes : goal.returns-clause-takes
+returns-clause-takes g c = λ inputs fresh static steps.
     let all = planned_files (g.F.InputFiles.file c.args.files.now) c.args.plan.now c.args.self.now.room.headers in
     let names = map (λ (a : Bor (List ℕ)). a.now) c.args.asked.now in
-    c.take_steps.ensures c.args.self.now.room.headers _ static (step_starts all c.args.plan.now c.args.self.now c.ask_all.new.self names inputs refl fresh c.in_ok-ask_all.ensures steps)
+    c.take_steps.ensures.takes c.args.self.now.room.headers _ static (step_starts all c.args.plan.now c.args.self.now c.ask_all.new.self names inputs refl fresh c.in_ok-ask_all.ensures.asks steps)
+
+pub returns-in_err-ask_all-clause-leaves : goal.returns-in_err-ask_all-clause-leaves
+returns-in_err-ask_all-clause-leaves g c = λ inputs fresh static steps.
+    let p = err_from_is_err_and c.from_residual.result c.from_residual.ensures.1 in
+    rw (p.1, p.2) (limit_stops _ _ _ _ _ c.in_err-ask_all.field-0.0 c.in_err-ask_all.ensures.limit)
+
+pub returns-clause-leaves : goal.returns-clause-leaves
+returns-clause-leaves g c = λ inputs fresh static steps.
+    let all = planned_files (g.F.InputFiles.file c.args.files.now) c.args.plan.now c.args.self.now.room.headers in
+    let names = map (λ (a : Bor (List ℕ)). a.now) c.args.asked.now in
+    let rows = ap (λ (r : Resolver). r.link.rows.rows) c.in_ok-ask_all.ensures.asks.same ∙ fresh.rows in
+    c.take_steps.ensures.leaves c.args.self.now.room.headers _ static (step_starts all c.args.plan.now c.args.self.now c.ask_all.new.self names inputs refl fresh c.in_ok-ask_all.ensures.asks steps)
+    (subst (λ l. NoneRefused all l) (sym rows) tt)
