@@ -11,6 +11,7 @@ pub mod LinkMembers
 pub mod MemberExtents
 pub mod MemberWalks
 pub mod MemberNames
+pub mod RowNames
 pub mod ArchiveIndexes
 pub mod Ranges
 pub mod Lines
@@ -39,3 +40,4 @@ pub mod Plans
 pub mod LinkPlaces
 pub mod OpenedArchives
 pub mod ResolvedInputs
+pub mod NamedRows

@@ -12,6 +12,7 @@ ghost use Rattle.elf_resolve.specs.Passing.{TookObject, pass_of};
 ghost use Rattle.elf_resolve.specs.Ranges.{IsRangeOf};
 ghost use Rattle.elf_resolve.specs.Resolved.{elements_in, linking_of, open_archive};
 ghost use Rattle.elf_resolve.specs.ResolvedInputs.{EntersIndex, IsArchiveAt, IsLink, KeepsArchives, KeptArchive, OpenedAs, TookInput, TookMembers};
+ghost use Rattle.elf_resolve.specs.RowNames.{AddsName, KeepsNames, member_names};
 ghost use Rattle.elf_resolve.specs.Taken.{header_of};
 
 use crate::archives::{ArchiveTables, OpenedArchive};
@@ -64,6 +65,9 @@ pub(crate) fn take_member<S: Source>(
         OnOk result (TookObject
         (or_empty (object_of (member_bytes file (link_members file).members place.member)
         room.old.headers)) keys.old keys.new place.row) }
+    ensures names { (file : List ℕ) → file_of_range src.old.seen ≡ Some file →
+        HasMembers file tables.now.members.items place.archive → OnOk result (AddsName
+        room.old.names room.new.names place.row (member_names (Some file) place.member)) }
 {
     let members = range_of(&tables.members, place.archive.members);
     let mut objects = MembersOfArchive {
@@ -107,6 +111,10 @@ pub(crate) fn search_members<S: Source>(
         (archive_in archive file room.old.headers)
         (elements_in tables.now.entries.items archive.entries)
         (pass_of link.old (elements_in taken.old archive.members))) }
+    ensures names { (file : List ℕ) → file_of_range src.old.seen ≡ Some file →
+        HasMembers file tables.now.members.items archive → OnOk result.ended
+        (KeepsNames archive.input (member_names (Some file)) link.old.rows.rows
+        link.new.rows.rows room.old.names room.new.names) }
 {
     let members = range_of(&tables.members, archive.members);
     let entries = range_of(&tables.entries, archive.entries);
