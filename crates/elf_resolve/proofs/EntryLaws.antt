@@ -118,7 +118,7 @@ pub prepared_plain : (entry : KeyEntry) (restricted : Bool) → restricted ≡ f
 prepared_plain entry true is = cc
 prepared_plain entry false is = refl
 
-changed_state : (entry : KeyEntry) (symbol : SymbolUse) (row : Option ℕ) (change : StateChange) → (key_changed entry symbol row change).state ≡ key_state_after entry.state change
+pub changed_state : (entry : KeyEntry) (symbol : SymbolUse) (row : Option ℕ) (change : StateChange) → (key_changed entry symbol row change).state ≡ key_state_after entry.state change
 changed_state entry symbol row Stays = refl
 changed_state entry symbol row Multiple = refl
 changed_state entry symbol row (Enlarged size) = refl
@@ -128,7 +128,7 @@ either_state : (which : Bool) (a b : KeyEntry) → b.state ≡ a.state → (if w
 either_state true a b same = refl
 either_state false a b same = same
 
-references_state : (symbol : SymbolUse) (r : SymbolRole) (row : Option ℕ) (entry : KeyEntry) → (references_by symbol r row entry).state ≡ entry.state
+pub references_state : (symbol : SymbolUse) (r : SymbolRole) (row : Option ℕ) (entry : KeyEntry) → (references_by symbol r row entry).state ≡ entry.state
 references_state symbol Reference row entry = either_state (symbol.dropped || symbol.of_library) entry (record entry { reference = first_row entry.reference row }) refl
 references_state symbol WeakReference row entry = either_state (symbol.dropped || symbol.of_library) entry (record entry { weak_reference = first_row entry.weak_reference row }) refl
 references_state symbol r row entry = refl

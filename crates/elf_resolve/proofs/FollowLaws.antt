@@ -331,7 +331,7 @@ without_unrestricted : (sections : List ℕ) (s : ObjectSymbol) (dropped : Bool)
 without_unrestricted sections s true is = is
 without_unrestricted sections s false is = is
 
-without_own : (sections : List ℕ) (s : ObjectSymbol) (dropped : Bool) → IsOwn s.symbol.symbol.role → IsOwn (if dropped then dropped_symbol s.symbol else s.symbol).symbol.role
+pub without_own : (sections : List ℕ) (s : ObjectSymbol) (dropped : Bool) → IsOwn s.symbol.symbol.role → IsOwn (if dropped then dropped_symbol s.symbol else s.symbol).symbol.role
 without_own sections s true own = reference_own s.symbol.symbol.role own
 without_own sections s false own = own
 

@@ -49,8 +49,13 @@ pub mod SectionTakenLaws
 pub mod LinkedSymbolLaws
 pub mod PlaceLaws
 pub mod OpenedLaws
+pub mod ListRoomLaws
 pub mod ResolvedLaws
 pub mod TakenMemberLaws
 pub mod TakenLaws
 pub mod NamedRowLaws
 pub mod StepLaws
+pub mod OwnKeyLaws
+pub mod OwnLinkLaws
+pub mod OwnFileLaws
+pub mod ListedLaws

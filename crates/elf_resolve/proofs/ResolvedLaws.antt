@@ -17,7 +17,10 @@ use Rattle.elf_model.specs.LinkSymbols.{object_of}
 use Rattle.elf_model.specs.declared.link_states.IndexEntry.{IndexEntry}
 use Rattle.elf_model.specs.declared.link_states.LinkRow.{LinkRow}
 use Rattle.elf_model.specs.declared.link_states.LinkRowKind.TheVariants.{Archive}
+use Rattle.elf_resolve.specs.EntryRows.{AreConsecutive}
+use Rattle.elf_resolve.specs.KeptLimits.{KeepsLimits}
 use Rattle.elf_resolve.specs.LinkPlaces.{is_new_state}
+use Rattle.elf_resolve.specs.ListRooms.{HasListRoom, KeepsLists, KeepsWithin}
 use Rattle.elf_resolve.specs.OpenedArchives.{AreDistinctArchives, AreOpened, HasMembers, IsOpenedArchive, IsInputState, SameOutside, archive_in, archive_of_input}
 use Rattle.elf_resolve.specs.Passing.{pass_of}
 use Rattle.elf_resolve.specs.Resolved.{elements_in, linking_of, open_archive}
@@ -29,6 +32,7 @@ use Rattle.elf_resolve.specs.declared.resolver.InputState.{InputState}
 use Rattle.elf_resolve.specs.declared.resolver.InputState.TheVariants as state
 use Rattle.elf_resolve.specs.declared.resolver.Resolver.{Resolver}
 use Rattle.elf_source.specs.Source.{SourceState}
+use Rattle.elf_resolve.proofs.ListRoomLaws.{consecutive_push, limits_same, limits_then, lists_then, room_by, room_still}
 use Rattle.elf_resolve.proofs.OpenedLaws.{all_more, all_push, distinct_push, elements_more, found_new, one_taken, state_new, state_still}
 
 -- a link by its parts
@@ -38,8 +42,8 @@ linking_by r keys rows archives keys_are rows_are archives_are = cc
 
 -- what holds of a link still does, if its tables and states are the same
 pub link_still : (files : LinkFiles) (old new : Resolver) → IsLink files old → new.room.headers ≡ old.room.headers → new.libraries ≡ old.libraries → new.states.items ≡ old.states.items → new.tables ≡ old.tables
-    → length new.taken.items ≡ length old.taken.items → IsLink files new
-link_still files old new is headers libraries states tables count = record {
+    → length new.taken.items ≡ length old.taken.items → KeepsLists old new → KeepsLimits old.link.keys new.link.keys → IsLink files new
+link_still files old new is headers libraries states tables count lists limits = record {
   headers = headers ∙ is.headers;
   no_libraries = subst (λ l. l.libraries.items ≡ []) (sym libraries) is.no_libraries;
   marked = count ∙ is.marked ∙ ap (λ (t : ArchiveTables). length t.members.items) (sym tables);
@@ -48,6 +52,7 @@ link_still files old new is headers libraries states tables count = record {
   states = λ input.
       subst (λ (t : ArchiveTables). IsInputState (slice_get new.states.items input) t.archives.items input) (sym tables)
       (subst (λ (s : List InputState). IsInputState (slice_get s input) old.tables.archives.items input) (sym states) (is.states input));
+  lists = room_still old new is.lists lists limits tables;
 }
 
 -- AN ARCHIVE IS SEARCHED
@@ -145,13 +150,25 @@ enters_from true file old from new keys entries is = (is.0 ∙ keys, is.1 ∙ en
 enters_from false file old from new keys entries is =
     subst (λ k. ReadIndex file k new.link.keys old.tables.entries.items new.tables.entries.items) keys (subst (λ e. ReadIndex file from.link.keys new.link.keys e.items new.tables.entries.items) entries is)
 
+marked_lists : (r0 r1 r3 : Resolver) (walked : ArchiveTables) → KeepsLists r0 r1 → r3 ≡ record r1 { tables = walked; taken = r3.taken } → KeepsLists r0 r3
+marked_lists r0 r1 r3 walked kept same = record {
+  offers = ap (λ (r : Resolver). r.offers) same ∙ kept.offers;
+  further = ap (λ (r : Resolver). r.further) same ∙ kept.further;
+  spare = ap (λ (r : Resolver). r.spare) same ∙ kept.spare;
+  kinds = ap (λ (r : Resolver). r.kinds) same ∙ kept.kinds;
+  problems = ap (λ (r : Resolver). r.problems) same ∙ kept.problems;
+}
+
+within_from : (first from : ArchiveTables) (last : ArchiveTables) → from.most ≡ first.most → from.entries ≡ first.entries → KeepsWithin from last → KeepsWithin first last
+within_from first from last most entries kept = record { most = kept.most ∙ most; within = λ fits. kept.within (omega (arith, fits, most, ap (λ v. length v.items) entries)) }
+
 pub archive_read : (file : List ℕ) (is_whole : Bool) (input row : ℕ) (r0 r1 r3 r4 : Resolver) (walked : ArchiveTables) (first entries count last : ℕ) (names : Option Place) → AddedRowOf r0 r1 (file_row Archive input) row
-    → WalkedMembers file r1.tables.members.items walked.members.items (extent_of_names names) → walked.archives ≡ r1.tables.archives → walked.entries ≡ r1.tables.entries
+    → WalkedMembers file r1.tables.members.items walked.members.items (extent_of_names names) → walked.archives ≡ r1.tables.archives → walked.entries ≡ r1.tables.entries → walked.most ≡ r1.tables.most
     → r3 ≡ record r1 { tables = walked; taken = r3.taken } → r3.taken.items ≡ r1.taken.items ++ replicate (count - first) false
     → first ≡ length r1.tables.members.items → entries ≡ length r1.tables.entries.items → count ≡ length walked.members.items → last ≡ length r4.tables.entries.items
     → KeepsArchives r3 r4 → EntersIndex is_whole file r3 r4
     → OpenedAs file is_whole input r0 r4 (record { input = input; row = row; members = (first, count); entries = (entries, last); names = names })
-archive_read file is_whole input row r0 r1 r3 r4 walked first entries count last names added walk archives_same entries_same same marks first_is entries_is count_is last_is keeps enters =
+archive_read file is_whole input row r0 r1 r3 r4 walked first entries count last names added walk archives_same entries_same most_same same marks first_is entries_is count_is last_is keeps enters =
     let members : r4.tables.members.items ≡ walked.members.items = ap (λ v. v.items) keeps.members ∙ ap (λ (r : Resolver). r.tables.members.items) same in
     let members_are : r4.tables.members.items ≡ r0.tables.members.items ++ map header_of (link_members file).members =
     members ∙ walk.members ∙ ap (λ (t : ArchiveTables). t.members.items ++ map header_of (link_members file).members) added.tables in
@@ -167,6 +184,7 @@ archive_read file is_whole input row r0 r1 r3 r4 walked first entries count last
         libraries = keeps.steps.libraries ∙ ap (λ (r : Resolver). r.libraries) same ∙ added.steps.libraries;
         states = keeps.steps.states ∙ ap (λ (r : Resolver). r.states) same ∙ added.steps.states;
         groups = keeps.steps.groups ∙ ap (λ (r : Resolver). r.groups) same ∙ added.steps.groups;
+        lists = lists_then r0 r3 r4 (marked_lists r0 r1 r3 walked added.steps.lists same) keeps.steps.lists;
       };
       rows = ap (λ r. r.rows) keeps.rows ∙ ap (λ (r : Resolver). r.link.rows.rows) same ∙ added.added.rows;
       none_refused = walk.whole;
@@ -175,6 +193,8 @@ archive_read file is_whole input row r0 r1 r3 r4 walked first entries count last
       marks = ap (λ v. v.items) keeps.taken ∙ marks ∙ ap (λ v. v.items ++ replicate (count - first) false) added.taken ∙ ap (λ n. r0.taken.items ++ replicate n false) number;
       index = enters_from is_whole file r0 r3 r4 (ap (λ (r : Resolver). r.link.keys) same ∙ added.keys)
           (ap (λ (r : Resolver). r.tables.entries) same ∙ entries_same ∙ ap (λ (t : ArchiveTables). t.entries) added.tables) enters;
+      within = within_from r0.tables r3.tables r4.tables (ap (λ (r : Resolver). r.tables.most) same ∙ most_same ∙ ap (λ (t : ArchiveTables). t.most) added.tables)
+          (ap (λ (r : Resolver). r.tables.entries) same ∙ entries_same ∙ ap (λ (t : ArchiveTables). t.entries) added.tables) keeps.within;
       archive_is = cc;
       names = walk.names_are;
     }
@@ -218,6 +238,9 @@ whole_link files file input old new archive is opened =
       states = λ i.
           subst (λ v. IsInputState (slice_get new.states.items i) v.items i) (sym opened.archives)
           (subst (λ s. IsInputState (slice_get s.items i) old.tables.archives.items i) (sym opened.steps.states) (is.states i));
+      lists = room_by old new is.lists opened.steps.lists (limits_same old.link.keys new.link.keys opened.index.0) opened.within
+          (subst (λ v. AreConsecutive 0 v.items (length new.tables.entries.items)) (sym opened.archives)
+          (subst (λ v. AreConsecutive 0 old.tables.archives.items (length v.items)) (sym opened.index.1) is.lists.consecutive));
     }
 
 -- the archive that was read has the members of its file
@@ -253,13 +276,26 @@ whole_taken files file seen input old opened_link new archive is at opened took 
     ∙ ap (λ (a : OpenedArchive). members_taken a.input a.row (with_row (linking_of old) (file_row Archive input)) (whole_members file 0 (link_members file).members files.headers)) opened.archive_is in
     record {
       makes = took.makes ∙ of_row ∙ ap (λ f. input_taken (linking_of old) input f) (sym file_is);
-      is_link = link_still files opened_link new (whole_link files file input old opened_link archive is opened) took.headers took.libraries (ap (λ v. v.items) took.states) took.tables took.count;
+      is_link = link_still files opened_link new (whole_link files file input old opened_link archive is opened) took.headers took.libraries (ap (λ v. v.items) took.states) took.tables took.count took.lists took.limits;
       groups = took.groups ∙ opened.steps.groups;
       reached = ap (λ s. is_new_state (slice_get s input)) states ∙ ap is_new_state at.state_is;
       others = λ j differ. ap (λ s. is_new_state (slice_get s j)) states;
     }
 
 -- A SEARCHED ARCHIVE
+kept_room : (file : List ℕ) (input : ℕ) (old opened_link new : Resolver) (archive : OpenedArchive) → HasListRoom old → OpenedAs file false input old opened_link archive → KeptArchive opened_link new archive → HasListRoom new
+kept_room file input old opened_link new archive room opened kept =
+    let archives : new.tables.archives.items ≡ old.tables.archives.items ++ archive ∷ [] = kept.archives ∙ ap (λ v. v.items ++ archive ∷ []) opened.archives in
+    let made = (index_entered (record { keys = old.link.keys.keys; entries = [] }) opened.index.symbols).entries in
+    let count : length new.tables.entries.items ≡ archive.entries.1 = ap (λ v. length v.items) kept.entries ∙ sym (ap (λ (a : OpenedArchive). a.entries.1) opened.archive_is) in
+    let start : archive.entries.0 ≡ length old.tables.entries.items = ap (λ (a : OpenedArchive). a.entries.0) opened.archive_is in
+    let more : length old.tables.entries.items ≤ archive.entries.1 = omega (arith, sym count, ap (λ v. length v.items) kept.entries, ap length opened.index.entries, length-append old.tables.entries.items made) in
+    let limits : KeepsLimits old.link.keys opened_link.link.keys = record { most = opened.index.most; most_further = opened.index.most_further } in
+    room_by old new room (lists_then old opened_link new opened.steps.lists kept.lists) (limits_then old.link.keys opened_link.link.keys new.link.keys limits (limits_same opened_link.link.keys new.link.keys (ap (λ l. l.keys) kept.link)))
+    (record { most = kept.most ∙ opened.within.most; within = λ fits. omega (arith, opened.within.within fits, kept.most, ap (λ v. length v.items) kept.entries) })
+    (subst (λ n. AreConsecutive 0 new.tables.archives.items n) (sym count)
+    (subst (λ a. AreConsecutive 0 a archive.entries.1) (sym archives) (consecutive_push 0 (length old.tables.entries.items) old.tables.archives.items archive room.consecutive start more)))
+
 kept_link : (files : LinkFiles) (file : List ℕ) (seen : SourceState) (input : ℕ) (old opened_link new : Resolver) (archive : OpenedArchive) → IsLink files old → IsArchiveAt files file old seen false input
     → OpenedAs file false input old opened_link archive → KeptArchive opened_link new archive → archive_of_input old.tables.archives.items input ≡ None → IsLink files new
 kept_link files file seen input old opened_link new archive is at opened kept none =
@@ -296,6 +332,7 @@ kept_link files file seen input old opened_link new archive is at opened kept no
           (kept_state old.states.items new.states.items old.tables.archives.items archive input i input_is at.state_is
           (kept.states ∙ ap (λ s. set s archive.input (state.Archive (length opened_link.tables.archives.items))) (ap (λ v. v.items) opened.steps.states)
           ∙ ap (λ n. set old.states.items archive.input (state.Archive n)) (ap (λ v. length v.items) opened.archives)) absent (is.states i));
+      lists = kept_room file input old opened_link new archive is.lists opened kept;
     }
 
 -- the archive and the link when it is searched first
@@ -384,7 +421,7 @@ searched_taken files file seen input old opened_link kept_as new archive is at o
             taken = replicate (length (link_members file).members) false;
           }) members) (first_link files file input old opened_link kept_as archive is opened kept)
           ∙ ap (λ f. input_taken (linking_of old) input f) (sym file_is);
-      is_link = link_still files kept_as new found.0 took.headers took.libraries (ap (λ v. v.items) took.states) took.tables took.count;
+      is_link = link_still files kept_as new found.0 took.headers took.libraries (ap (λ v. v.items) took.states) took.tables took.count took.lists took.limits;
       groups = took.groups ∙ kept.groups ∙ opened.steps.groups;
       reached = ap (λ s. is_new_state (slice_get s input)) states
           ∙ ap is_new_state (set_here old.states.items input (state.Archive (length opened_link.tables.archives.items)) state.Done at.state_is);

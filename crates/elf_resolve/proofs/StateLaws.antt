@@ -76,7 +76,7 @@ own_choice : (m n : ℕ) (b : Bool) → IsOwnState (key_state_after (state.Commo
 own_choice m n true = tt
 own_choice m n false = tt
 
-stays_own : (s : KeyState) (e : SymbolRole) → IsOwnState s → IsOwn e → IsOwnState (after s e)
+pub stays_own : (s : KeyState) (e : SymbolRole) → IsOwnState s → IsOwn e → IsOwnState (after s e)
 stays_own (Shared y) e os oe = absurd os
 stays_own s (role.Shared y) os oe = absurd oe
 stays_own (state.Common m) (Common n) os oe = own_choice m n (nat_lt m n)

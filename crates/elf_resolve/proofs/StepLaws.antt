@@ -9,6 +9,7 @@ use Rattle.std.proofs.lemmas.Option.{slice_get_past}
 use Rattle.elf_model.specs.LinkArchives.{LinkFiles, files_as_inputs}
 use Rattle.elf_model.specs.LinkInputs.{LinkInputs, Linking, argument_symbol, inputs_taken, linked, with_arguments}
 use Rattle.elf_model.specs.LinkKeys.{LinkKeys, LinkSymbol, no_keys, symbol_taken, symbols_taken}
+use Rattle.elf_resolve.specs.ListRooms.{KeepsLists}
 use Rattle.elf_resolve.specs.LinkPlaces.{IsLinkAt, input_made, is_new_input, is_new_state}
 use Rattle.elf_resolve.specs.OpenedArchives.{AreDistinctArchives, AreOpened, IsInputState}
 use Rattle.elf_resolve.specs.Plans.{AreDistinctSteps, plan_steps}
@@ -21,15 +22,25 @@ use Rattle.elf_resolve.specs.declared.resolver.InputState.{InputState}
 use Rattle.elf_resolve.specs.declared.resolver.InputState.TheVariants as state
 use Rattle.elf_resolve.specs.declared.resolver.OpenGroup.{OpenGroup}
 use Rattle.elf_resolve.specs.declared.resolver.Resolver.{Resolver}
+use Rattle.elf_resolve.proofs.ListRoomLaws.{limits_itself, limits_same, limits_then, room_still}
 use Rattle.elf_resolve.proofs.OpenedLaws.{distinct_as}
 use Rattle.elf_resolve.proofs.PlaceLaws.{place_closes, place_ends, place_has_group, place_opens, place_repeats, place_starts, place_takes}
 use Rattle.elf_resolve.proofs.ResolvedLaws.{link_still, linking_by}
 
 -- a link of which only groups are others
+lists_same : (old new : Resolver) → new ≡ record old { groups = new.groups } → KeepsLists old new
+lists_same old new same = record {
+  offers = ap (λ (r : Resolver). r.offers) same;
+  further = ap (λ (r : Resolver). r.further) same;
+  spare = ap (λ (r : Resolver). r.spare) same;
+  kinds = ap (λ (r : Resolver). r.kinds) same;
+  problems = ap (λ (r : Resolver). r.problems) same;
+}
+
 group_link : (files : LinkFiles) (old new : Resolver) → IsLink files old → new ≡ record old { groups = new.groups } → IsLink files new
 group_link files old new is same =
     link_still files old new is (ap (λ (r : Resolver). r.room.headers) same) (ap (λ (r : Resolver). r.libraries) same) (ap (λ (r : Resolver). r.states.items) same) (ap (λ (r : Resolver). r.tables) same)
-    (ap (λ (r : Resolver). length r.taken.items) same)
+    (ap (λ (r : Resolver). length r.taken.items) same) (lists_same old new same) (limits_same old.link.keys new.link.keys (ap (λ (r : Resolver). r.link.keys) same))
 
 module _ (files : LinkFiles) (plan : LinkPlan) (whole : Linking) where
   pub step_opens : (old new : Resolver) (place next : ℕ) → next ≡ place + 1 → slice_get plan.steps.items place ≡ Some step.Open → OpenedGroup old new next → IsAtStep files plan whole old place → IsAtStep files plan whole new next
@@ -96,7 +107,7 @@ differ_false a b differ = differ_by a b (a == b) refl differ
 
 -- the row of the file that is read is another
 pub row_link_still : (files : LinkFiles) (old : Resolver) (row : Option ℕ) → IsLink files old → IsLink files (record old { row = row })
-row_link_still files old row is = link_still files old (record old { row = row }) is refl refl refl refl refl
+row_link_still files old row is = link_still files old (record old { row = row }) is refl refl refl refl refl (record { offers = refl; further = refl; spare = refl; kinds = refl; problems = refl }) (limits_itself old.link.keys)
 
 pub took_from_row : (files : LinkFiles) (old : Resolver) (row : Option ℕ) (new : Resolver) (index : ℕ) → TookInput files (record old { row = row }) new index (input_made (is_new_input old.states.items index) (linking_of old) index (files_as_inputs files index))
     → TookInput files old new index (input_made (is_new_input old.states.items index) (linking_of old) index (files_as_inputs files index))
@@ -110,6 +121,15 @@ fresh_state (Some state.Done) i is = refl
 fresh_state (Some (state.Archive index)) i is = absurd cc
 fresh_state (Some (state.Library index)) i is = absurd cc
 
+asked_lists : (old new : Resolver) → new ≡ record old { link = record old.link { keys = new.link.keys } } → KeepsLists old new
+asked_lists old new same = record {
+  offers = ap (λ (r : Resolver). r.offers) same;
+  further = ap (λ (r : Resolver). r.further) same;
+  spare = ap (λ (r : Resolver). r.spare) same;
+  kinds = ap (λ (r : Resolver). r.kinds) same;
+  problems = ap (λ (r : Resolver). r.problems) same;
+}
+
 fresh_link : (files : LinkFiles) (old new : Resolver) (names : List (List ℕ)) → files.headers ≡ old.room.headers → IsFresh old → AskedNames old new names → IsLink files new
 fresh_link files old new names headers fresh asked =
     let archives : new.tables.archives.items ≡ [] = ap (λ (r : Resolver). r.tables.archives.items) asked.same ∙ fresh.archives in
@@ -121,6 +141,7 @@ fresh_link files old new names headers fresh asked =
       distinct = subst AreDistinctArchives (sym archives) tt;
       states = λ i. subst (λ a. IsInputState (slice_get new.states.items i) a i) (sym archives)
           (fresh_state (slice_get new.states.items i) i (ap (λ (r : Resolver). is_new_input r.states.items i) asked.same ∙ fresh.states i));
+      lists = room_still old new fresh.lists (asked_lists old new asked.same) asked.limits (ap (λ (r : Resolver). r.tables) asked.same);
     }
 
 fresh_linking : (old new : Resolver) (names : List (List ℕ)) → IsFresh old → AskedNames old new names → linking_of new ≡ with_arguments names
@@ -147,7 +168,7 @@ symbols_both row keys [] ys = refl
 symbols_both row keys (x ∷ xs) ys = symbols_both row (symbol_taken row keys x) xs ys
 
 pub asked_none : (old : Resolver) → AskedNames old old []
-asked_none old = record { same = refl; keys = refl }
+asked_none old = record { same = refl; keys = refl; limits = limits_itself old.link.keys }
 
 pub asked_more : (old now new : Resolver) (names : List (List ℕ)) (name : List ℕ) → AskedNames old now names → AskedNames now new (name ∷ []) → AskedNames old new (names ++ name ∷ [])
 asked_more old now new names name first second = record {
@@ -155,6 +176,7 @@ asked_more old now new names name first second = record {
   keys = second.keys ∙ ap (λ k. symbols_taken None k (map argument_symbol (name ∷ []))) first.keys
       ∙ sym (symbols_both None old.link.keys.keys (map argument_symbol names) (map argument_symbol (name ∷ [])))
       ∙ ap (λ l. symbols_taken None old.link.keys.keys l) (sym (map-append argument_symbol names (name ∷ [])));
+  limits = limits_then old.link.keys now.link.keys new.link.keys first.limits second.limits;
 }
 
 pub asked_next : (xs : List (Bor (List ℕ))) (i : ℕ) (d : Bor (List ℕ)) (name : List ℕ) → i < length xs → name ≡ (get_or xs i d).now

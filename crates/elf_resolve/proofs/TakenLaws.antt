@@ -12,6 +12,7 @@ use Rattle.elf_model.specs.LinkSymbols.{object_of}
 use Rattle.elf_model.specs.declared.link_states.LinkRow.{LinkRow}
 use Rattle.elf_model.specs.declared.link_states.LinkRowKind.TheVariants.{Object, Missing}
 use Rattle.elf_resolve.specs.KeyTables.{KeyList}
+use Rattle.elf_resolve.specs.ListRooms.{KeepsLists}
 use Rattle.elf_resolve.specs.LinkPlaces.{input_made, is_new_input, is_new_state}
 use Rattle.elf_resolve.specs.OpenedArchives.{AreDistinctArchives, AreOpened, IsOpenedArchive, IsInputState, archive_of_input}
 use Rattle.elf_resolve.specs.Plans.{IsKnownFile, IsStaticPlan, archive_planned, file_of_kind, file_planned, planned_files, whole_planned}
@@ -28,6 +29,7 @@ use Rattle.elf_resolve.specs.declared.link_files.LinkPlan.{LinkPlan}
 use Rattle.elf_resolve.specs.declared.resolver.InputState.{InputState}
 use Rattle.elf_resolve.specs.declared.resolver.InputState.TheVariants as state
 use Rattle.elf_resolve.specs.declared.resolver.Resolver.{Resolver}
+use Rattle.elf_resolve.proofs.ListRoomLaws.{limits_same, room_still}
 use Rattle.elf_resolve.proofs.OpenedLaws.{input_found, opened_as}
 use Rattle.elf_resolve.proofs.ResolvedLaws.{input_missing, input_object, link_still, linking_by, set_here, set_there}
 use Rattle.elf_resolve.proofs.TakenMemberLaws.{on_ok_then}
@@ -47,6 +49,15 @@ done_state old new archives index i is_new states is = by (eqb_tells index i) wh
       let there : slice_get new i ≡ slice_get old i = ap (λ s. slice_get s i) states ∙ set_there old index i state.Done differ in
       subst (λ s. IsInputState s archives i) (sym there) is
 
+state_lists : (old new : Resolver) → new ≡ record old { states = new.states } → KeepsLists old new
+state_lists old new same = record {
+  offers = ap (λ (r : Resolver). r.offers) same;
+  further = ap (λ (r : Resolver). r.further) same;
+  spare = ap (λ (r : Resolver). r.spare) same;
+  kinds = ap (λ (r : Resolver). r.kinds) same;
+  problems = ap (λ (r : Resolver). r.problems) same;
+}
+
 pub reached_link : (files : LinkFiles) (old new : Resolver) (index : ℕ) → IsLink files old → slice_get old.states.items index ≡ Some state.New → new ≡ record old { states = new.states } → new.states.items ≡ set old.states.items index state.Done → IsLink files new
 reached_link files old new index is is_new same states = record {
   headers = ap (λ (r : Resolver). r.room.headers) same ∙ is.headers;
@@ -57,6 +68,7 @@ reached_link files old new index is is_new same states = record {
   states = λ i.
       subst (λ (r : Resolver). IsInputState (slice_get new.states.items i) r.tables.archives.items i) (sym same)
       (done_state old.states.items new.states.items old.tables.archives.items index i is_new states (is.states i));
+  lists = room_still old new is.lists (state_lists old new same) (limits_same old.link.keys new.link.keys (ap (λ (r : Resolver). r.link.keys) same)) (ap (λ (r : Resolver). r.tables) same);
 }
 
 pub reached_done : (old new : Resolver) (index : ℕ) → slice_get old.states.items index ≡ Some state.New → new.states.items ≡ set old.states.items index state.Done → slice_get new.states.items index ≡ Some state.Done
@@ -76,6 +88,7 @@ reached_took files old marked new index same states took = record {
 row_link : (files : LinkFiles) (old new : Resolver) (row : LinkRow) (index : ℕ) → IsLink files old → AddedRowOf old new row index → IsLink files new
 row_link files old new row index is added =
     link_still files old new is added.steps.headers added.steps.libraries (ap (λ v. v.items) added.steps.states) added.tables (ap (λ v. length v.items) added.taken)
+    added.steps.lists (limits_same old.link.keys new.link.keys added.keys)
 
 -- a link in which only keys and rows changed
 took_keys : (files : LinkFiles) (old new : Resolver) (index : ℕ) (made : Linking) → IsLink files new → linking_of new ≡ made → new.states ≡ old.states → new.groups ≡ old.groups → slice_get old.states.items index ≡ Some state.Done → TookInput files old new index made
@@ -102,10 +115,10 @@ missing_taken files old new index row is done added none =
 
 pub object_file_taken : (files : LinkFiles) (file : List ℕ) (old added new : Resolver) (index row : ℕ) → IsLink files old → slice_get old.states.items index ≡ Some state.Done → files.is_archive index ≡ false → files.file index ≡ Some file
     → AddedRowOf old added (file_row Object index) row → new.link.rows ≡ added.link.rows → new.tables ≡ added.tables → new.taken ≡ added.taken → new.states ≡ added.states → new.groups ≡ added.groups → new.libraries ≡ added.libraries
-    → new.room.headers ≡ added.room.headers → TakesObject file added.room.headers row added.link.keys new.link.keys (Ok tt)
+    → new.room.headers ≡ added.room.headers → KeepsLists added new → TakesObject file added.room.headers row added.link.keys new.link.keys (Ok tt)
     → TookInput files old new index (input_taken (linking_of old) index (files_as_inputs files index))
 unfolding input_taken
-object_file_taken files file old added new index row is done not_archive file_is row_added rows tables taken states groups libraries headers takes =
+object_file_taken files file old added new index row is done not_archive file_is row_added rows tables taken states groups libraries headers lists takes =
     let object = takes.0 in
     let headers_are : added.room.headers ≡ files.headers = row_added.steps.headers ∙ is.headers in
     let object_is : object_of file files.headers ≡ Ok object = ap (λ h. object_of file h) (sym headers_are) ∙ takes.1 in
@@ -115,7 +128,8 @@ object_file_taken files file old added new index row is done not_archive file_is
     linking_by new (object_taken (Some (length old.link.rows.rows)) old.link.keys.keys object) ((linking_of old).rows ++ file_row Object index ∷ []) (linking_of old).archives keys
     (ap (λ r. r.rows) rows ∙ row_added.added.rows) (same_archives old new (tables ∙ row_added.tables) (taken ∙ row_added.taken)) in
     took_keys files old new index (input_taken (linking_of old) index (files_as_inputs files index))
-    (link_still files added new (row_link files old added (file_row Object index) row is row_added) headers libraries (ap (λ v. v.items) states) tables (ap (λ v. length v.items) taken))
+    (link_still files added new (row_link files old added (file_row Object index) row is row_added) headers libraries (ap (λ v. v.items) states) tables (ap (λ v. length v.items) taken) lists
+    (record { most = takes.2.most; most_further = takes.2.most_further }))
     (made ∙ ap (λ f. input_taken (linking_of old) index f) (sym (input_object files index file object not_archive file_is object_is))) (states ∙ row_added.steps.states) (groups ∙ row_added.steps.groups) done
 
 -- ONCE MORE only archives are searched
@@ -163,7 +177,7 @@ archive_again_taken files old new i k a opened is at found took =
     let searched = again_searched (linking_of old) i (open_archive old.tables.entries.items old.taken.items a) (files_as_inputs files i) opened.count opened.symbols (members_as_objects opened.file (link_members opened.file).members files.headers) there input_is in
     record {
       makes = took.makes ∙ sym (ap (λ b. input_made b (linking_of old) i (files_as_inputs files i)) old_state ∙ searched);
-      is_link = link_still files old new is took.headers took.libraries (ap (λ v. v.items) took.states) took.tables took.count;
+      is_link = link_still files old new is took.headers took.libraries (ap (λ v. v.items) took.states) took.tables took.count took.lists took.limits;
       groups = took.groups;
       reached = ap (λ v. is_new_state (slice_get v.items i)) took.states ∙ old_state;
       others = λ j differ. ap (λ v. is_new_state (slice_get v.items j)) took.states;
@@ -212,6 +226,15 @@ archive_known files known index input is at =
     let has : (bytes : List ℕ) × (known index ≡ Some bytes) = subst (λ k. IsKnownFile k (known index)) at is.is_known in
     (has.0, has.1, is.file ∙ ap (λ k. file_of_kind k (known index)) at ∙ has.1)
 
+left_lists : (took new : Resolver) → new ≡ record took { left = new.left } → KeepsLists took new
+left_lists took new left = record {
+  offers = ap (λ (r : Resolver). r.offers) left;
+  further = ap (λ (r : Resolver). r.further) left;
+  spare = ap (λ (r : Resolver). r.spare) left;
+  kinds = ap (λ (r : Resolver). r.kinds) left;
+  problems = ap (λ (r : Resolver). r.problems) left;
+}
+
 pub read_makes : (files : LinkFiles) (old opened took new : Resolver) (index : ℕ) (result : Result (Unit {0}) LinkFault) → opened ≡ old → new ≡ record took { left = new.left }
     → OnOk result (TookInput files opened took index (input_taken (linking_of opened) index (files_as_inputs files index)))
     → OnOk result (TookInput files old new index (input_taken (linking_of old) index (files_as_inputs files index)))
@@ -220,7 +243,7 @@ read_makes files old opened took new index result same left holds =
     on_ok_then (TookInput files old took index (input_taken (linking_of old) index (files_as_inputs files index))) (TookInput files old new index (input_taken (linking_of old) index (files_as_inputs files index))) result (λ done. record {
       makes = ap (λ (r : Resolver). linking_of r) left ∙ done.makes;
       is_link = link_still files took new done.is_link (ap (λ (r : Resolver). r.room.headers) left) (ap (λ (r : Resolver). r.libraries) left) (ap (λ (r : Resolver). r.states.items) left) (ap (λ (r : Resolver). r.tables) left)
-          (ap (λ (r : Resolver). length r.taken.items) left);
+          (ap (λ (r : Resolver). length r.taken.items) left) (left_lists took new left) (limits_same took.link.keys new.link.keys (ap (λ (r : Resolver). r.link.keys) left));
       groups = ap (λ (r : Resolver). r.groups) left ∙ done.groups;
       reached = ap (λ (r : Resolver). is_new_input r.states.items index) left ∙ done.reached;
       others = λ j differ. ap (λ (r : Resolver). is_new_input r.states.items j) left ∙ done.others j differ;

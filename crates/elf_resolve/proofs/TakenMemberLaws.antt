@@ -19,6 +19,7 @@ use Rattle.elf_resolve.specs.declared.archives.ArchiveTables.{ArchiveTables}
 use Rattle.elf_resolve.specs.declared.archives.OpenedArchive.{OpenedArchive}
 use Rattle.elf_resolve.specs.declared.link_faults.LinkFault.{LinkFault}
 use Rattle.elf_resolve.specs.declared.resolver.Resolver.{Resolver}
+use Rattle.elf_resolve.proofs.ListRoomLaws.{limits_itself, limits_same, limits_then, lists_itself, lists_then}
 use Rattle.elf_resolve.proofs.OpenedLaws.{found_opened}
 use Rattle.elf_resolve.proofs.ResolvedLaws.{members_searched}
 
@@ -35,6 +36,12 @@ members_of_file known file headers is = ap (λ k. members_by_file k headers) is
 
 file_of : (one other : List ℕ) (known : Option (List ℕ)) → known ≡ Some one → known ≡ Some other → one ≡ other
 file_of one other known is is_other = let both : Some one ≡ Some other = sym is ∙ is_other in cc
+
+pub search_has : (files : LinkFiles) (file : List ℕ) (old : Resolver) (archive : OpenedArchive) → IsLink files old → archive_of_input old.tables.archives.items archive.input ≡ Some archive → files.file archive.input ≡ Some file
+    → HasMembers file old.tables.members.items archive
+search_has files file old archive is found file_is =
+    let opened = found_opened files old.tables.members.items (length old.tables.entries.items) 0 old.tables.archives.items archive.input archive is.opened found in
+    subst (λ f. HasMembers f old.tables.members.items archive) (file_of opened.file file (files.file archive.input) opened.file_is file_is) opened.has_members
 
 pub search_makes : (files : LinkFiles) (file : List ℕ) (old new : Resolver) (archive : OpenedArchive) (before after : List Bool) → IsLink files old → archive_of_input old.tables.archives.items archive.input ≡ Some archive
     → files.file archive.input ≡ Some file → before ≡ old.taken.items → new.taken.items ≡ after → new.tables ≡ old.tables
@@ -83,6 +90,14 @@ again_makes files file old opened searched new archive a result same_open left o
       states = ap (λ (r : Resolver). r.states) left ∙ done.states;
       groups = ap (λ (r : Resolver). r.groups) left ∙ done.groups;
       count = ap (λ (r : Resolver). length r.taken.items) left ∙ done.count;
+      lists = record {
+        offers = ap (λ (r : Resolver). r.offers) left ∙ done.lists.offers;
+        further = ap (λ (r : Resolver). r.further) left ∙ done.lists.further;
+        spare = ap (λ (r : Resolver). r.spare) left ∙ done.lists.spare;
+        kinds = ap (λ (r : Resolver). r.kinds) left ∙ done.lists.kinds;
+        problems = ap (λ (r : Resolver). r.problems) left ∙ done.lists.problems;
+      };
+      limits = limits_then old.link.keys searched.link.keys new.link.keys done.limits (limits_same searched.link.keys new.link.keys (ap (λ (r : Resolver). r.link.keys) left));
     }) here
 
 pub on_ok : {T E : Type 0} → (P : Type 0) (r : Result T E) (x : T) → r ≡ Ok x → OnOk r P → P
@@ -106,13 +121,15 @@ took_then a b c made first second = record {
   states = second.states ∙ first.states;
   groups = second.groups ∙ first.groups;
   count = second.count ∙ first.count;
+  lists = lists_then a b c first.lists second.lists;
+  limits = limits_then a.link.keys b.link.keys c.link.keys first.limits second.limits;
 }
 
 took_as : (a b : Resolver) (made other : Linking) → made ≡ other → TookMembers a b made → TookMembers a b other
 took_as a b made other same took = subst (λ l. TookMembers a b l) same took
 
 pub took_itself : (a : Resolver) → TookMembers a a (linking_of a)
-took_itself a = record { makes = refl; headers = refl; libraries = refl; tables = refl; states = refl; groups = refl; count = refl }
+took_itself a = record { makes = refl; headers = refl; libraries = refl; tables = refl; states = refl; groups = refl; count = refl; lists = lists_itself a; limits = limits_itself a.link.keys }
 
 pub whole_more : (file : List ℕ) (start now new : Resolver) (i r number : ℕ) (whole : Linking) → TookMembers start now (linking_of now)
     → members_taken i r (linking_of now) (whole_members file number (drop number (link_members file).members) start.room.headers) ≡ whole → number < length (link_members file).members

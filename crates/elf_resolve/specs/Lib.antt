@@ -40,4 +40,7 @@ pub mod Plans
 pub mod LinkPlaces
 pub mod OpenedArchives
 pub mod ResolvedInputs
+pub mod KeptLimits
+pub mod ListRooms
+pub mod OwnLinks
 pub mod NamedRows

@@ -8,8 +8,10 @@ use Rattle.elf_model.specs.LinkInputs.{Linking, argument_symbol, file_row}
 use Rattle.elf_model.specs.LinkKeys.{no_keys, symbols_taken}
 use Rattle.elf_model.specs.declared.link_states.LinkRow.{LinkRow}
 use Rattle.elf_model.specs.declared.link_states.LinkRowKind.TheVariants.{Archive}
+use Rattle.elf_resolve.specs.KeptLimits.{KeepsLimits}
 use Rattle.elf_resolve.specs.LinkMembers.{file_of_range}
 use Rattle.elf_resolve.specs.LinkPlaces.{IsLinkAt, is_new_input}
+use Rattle.elf_resolve.specs.ListRooms.{HasListRoom, KeepsLists, KeepsWithin}
 use Rattle.elf_resolve.specs.OpenedArchives.{AreDistinctArchives, AreOpened, IsInputState}
 use Rattle.elf_resolve.specs.Plans.{IsKnownFile, file_of_kind, is_archive_kind}
 use Rattle.elf_resolve.specs.Resolved.{linking_of}
@@ -23,7 +25,7 @@ use Rattle.elf_resolve.specs.declared.resolver.Resolver.{Resolver}
 use Rattle.elf_source.specs.Source.{SourceState}
 
 -- A LINK WITHOUT SHARED LIBRARIES: its archives are opened files, each input's state is that of its
--- archive, and there is a mark for each member
+-- archive, there is a mark for each member, and nothing is listed
 pub record IsLink (files : LinkFiles) (link : Resolver) : Type 0 where
   pub headers : link.room.headers ≡ files.headers
   pub no_libraries : link.libraries.libraries.items ≡ []
@@ -31,6 +33,7 @@ pub record IsLink (files : LinkFiles) (link : Resolver) : Type 0 where
   pub opened : AreOpened files link.tables.members.items (length link.tables.entries.items) 0 link.tables.archives.items
   pub distinct : AreDistinctArchives link.tables.archives.items
   pub states : (input : ℕ) → IsInputState (slice_get link.states.items input) link.tables.archives.items input
+  pub lists : HasListRoom link
 
 -- what is at an input of a plan is what it is among the files
 pub record IsPlanned (files : LinkFiles) (known : ℕ → Option (List ℕ)) (index : ℕ) (input : LinkInput) : Type 0 where
@@ -56,6 +59,8 @@ pub record TookMembers (old new : Resolver) (made : Linking) : Type 0 where
   pub states : new.states ≡ old.states
   pub groups : new.groups ≡ old.groups
   pub count : length new.taken.items ≡ length old.taken.items
+  pub lists : KeepsLists old new
+  pub limits : KeepsLimits old.link.keys new.link.keys
 
 -- what only steps change, and the taking of an input
 pub record KeepsSteps (old new : Resolver) : Type 0 where
@@ -63,6 +68,7 @@ pub record KeepsSteps (old new : Resolver) : Type 0 where
   pub libraries : new.libraries ≡ old.libraries
   pub states : new.states ≡ old.states
   pub groups : new.groups ≡ old.groups
+  pub lists : KeepsLists old new
 
 -- a row was added, of an index
 pub record AddedRowOf (old new : Resolver) (row : LinkRow) (index : ℕ) : Type 0 where
@@ -84,6 +90,7 @@ pub record KeepsArchives (old new : Resolver) : Type 0 where
   pub taken : new.taken ≡ old.taken
   pub members : new.tables.members ≡ old.tables.members
   pub archives : new.tables.archives ≡ old.tables.archives
+  pub within : KeepsWithin old.tables new.tables
 
 -- AN ARCHIVE WAS READ: its row was added, and its members are marked as not taken
 pub record OpenedAs (file : List ℕ) (is_whole : Bool) (input : ℕ) (old new : Resolver) (archive : OpenedArchive) : Type 0 where
@@ -94,6 +101,7 @@ pub record OpenedAs (file : List ℕ) (is_whole : Bool) (input : ℕ) (old new :
   pub archives : new.tables.archives ≡ old.tables.archives
   pub marks : new.taken.items ≡ old.taken.items ++ replicate (length (link_members file).members) false
   pub index : EntersIndex is_whole file old new
+  pub within : KeepsWithin old.tables new.tables
   pub archive_is : archive ≡ record {
     input = input;
     row = length old.link.rows.rows;
@@ -114,6 +122,8 @@ pub record KeptArchive (old new : Resolver) (archive : OpenedArchive) : Type 0 w
   pub members : new.tables.members ≡ old.tables.members
   pub entries : new.tables.entries ≡ old.tables.entries
   pub archives : new.tables.archives.items ≡ old.tables.archives.items ++ archive ∷ []
+  pub lists : KeepsLists old new
+  pub most : new.tables.most ≡ old.tables.most
 
 -- an archive of a file that is read is at an input that is reached and not opened
 pub record IsArchiveAt (files : LinkFiles) (file : List ℕ) (link : Resolver) (seen : SourceState) (is_whole : Bool) (input : ℕ) : Type 0 where
@@ -149,9 +159,11 @@ pub record IsFresh (link : Resolver) : Type 0 where
   pub libraries : link.libraries.libraries.items ≡ []
   pub groups : link.groups.items ≡ []
   pub states : (input : ℕ) → is_new_input link.states.items input ≡ true
+  pub lists : HasListRoom link
   pub names : link.room.names ≡ []
 
 -- names were asked for by arguments
 pub record AskedNames (old new : Resolver) (names : List (List ℕ)) : Type 0 where
   pub same : new ≡ record old { link = record old.link { keys = new.link.keys } }
   pub keys : new.link.keys.keys ≡ symbols_taken None old.link.keys.keys (map argument_symbol names)
+  pub limits : KeepsLimits old.link.keys new.link.keys

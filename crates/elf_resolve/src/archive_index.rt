@@ -6,6 +6,7 @@ ghost use Rattle.elf_model.specs.Bytes.{number};
 ghost use Rattle.elf_model.specs.LinkArchives.{LinkMember, big, index_symbols, is_archive_index, link_members, members_refusal};
 ghost use Rattle.elf_source.specs.Prelude.{KeepsSource};
 ghost use Rattle.elf_resolve.specs.ArchiveIndexes.{EndsName, EntersDefault, EntersEntry, EntersIndexBy, EntersKey, EntersName, FindsIndex, FindsParts, HasParts, HoldsIndex, NumbersMember, width_at};
+ghost use Rattle.elf_resolve.specs.ListRooms.{KeepsWithin};
 ghost use Rattle.elf_resolve.specs.StringBuffers.{HoldsText, KeptTexts};
 ghost use Rattle.elf_resolve.specs.Taken.{ReadsIndex, header_of};
 
@@ -47,6 +48,7 @@ pub(crate) fn read_index<S: Source>(
     ensures keeps { KeepsSource src.old.seen src.new.seen }
     ensures members { tables.new.members ≡ tables.old.members }
     ensures archives { tables.new.archives ≡ tables.old.archives }
+    ensures within { KeepsWithin tables.old tables.new }
     ensures reads { (file : List ℕ) → src.old.seen.file ≡ Some file →
         drop first tables.old.members.items ≡ map header_of (link_members file).members →
         first ≤ length tables.old.members.items →
@@ -74,6 +76,7 @@ fn enter_index(
 ) -> Result<(), LinkFault>
     ensures members { tables.new.members ≡ tables.old.members }
     ensures archives { tables.new.archives ≡ tables.old.archives }
+    ensures within { KeepsWithin tables.old tables.new }
     ensures enters { (bytes : List ℕ) (start : ℕ) (members : List LinkMember) →
         HoldsIndex strings.old.bytes bytes start parts →
         drop first tables.old.members.items ≡ map header_of members →
@@ -107,6 +110,7 @@ fn enter_entry(
 ) -> Result<usize, LinkFault>
     ensures members { tables.new.members ≡ tables.old.members }
     ensures archives { tables.new.archives ≡ tables.old.archives }
+    ensures within { KeepsWithin tables.old tables.new }
     ensures stays { KeptTexts strings.old strings.new }
     ensures enters { (bytes : List ℕ) (start : ℕ) (members : List LinkMember) →
         HoldsIndex strings.old.bytes bytes start parts →

@@ -6,6 +6,7 @@ ghost use Rattle.elf_model.specs.LinkArchives.{LinkFiles, LinkMember, files_as_i
 ghost use Rattle.elf_model.specs.LinkInputs.{archive_again, input_taken, members_taken, whole_row, with_object};
 ghost use Rattle.elf_model.specs.LinkPasses.{archive_searched};
 ghost use Rattle.elf_model.specs.LinkSymbols.{object_of};
+ghost use Rattle.elf_resolve.specs.KeptLimits.{KeepsLimits};
 ghost use Rattle.elf_resolve.specs.LinkMembers.{file_of_range};
 ghost use Rattle.elf_resolve.specs.OpenedArchives.{HasMembers, SameOutside, archive_in, archive_of_input};
 ghost use Rattle.elf_resolve.specs.Passing.{TookObject, pass_of};
@@ -111,6 +112,9 @@ pub(crate) fn search_members<S: Source>(
         (archive_in archive file room.old.headers)
         (elements_in tables.now.entries.items archive.entries)
         (pass_of link.old (elements_in taken.old archive.members))) }
+    ensures limits { (file : List ℕ) → file_of_range src.old.seen ≡ Some file →
+        HasMembers file tables.now.members.items archive →
+        OnOk result.ended (KeepsLimits link.old.keys link.new.keys) }
     ensures names { (file : List ℕ) → file_of_range src.old.seen ≡ Some file →
         HasMembers file tables.now.members.items archive → OnOk result.ended
         (KeepsNames archive.input (member_names (Some file)) link.old.rows.rows

@@ -5,6 +5,7 @@ ghost use Rattle.elf_archive.specs.Members.{extent_of, extent_of_names, names_pa
 ghost use Rattle.elf_model.specs.LinkArchives.{LinkMember, link_member_at};
 ghost use Rattle.elf_source.specs.Prelude.{KeepsSource};
 ghost use Rattle.elf_resolve.specs.Taken.{WalksMembers, header_of};
+ghost use Rattle.elf_resolve.specs.ListRooms.{KeepsWithin};
 ghost use Rattle.elf_resolve.specs.MemberExtents.{LiesAfterHeader, ReadsMemberHeader};
 ghost use Rattle.elf_resolve.specs.MemberWalks.{AddsElement, PassesMembers};
 
@@ -54,8 +55,10 @@ impl ArchiveTables {
     /// # Errors
     /// Out of memory.
     pub(crate) fn new(alloc: Global, index: u32, rows: u32) -> Result<ArchiveTables, AllocError>
-        ensures { IfOk result (λ tables. (tables.archives.items ≡ [])
+        ensures empty { IfOk result (λ tables. (tables.archives.items ≡ [])
             × (tables.members.items ≡ [])) }
+        ensures entries { IfOk result
+            (λ tables. (tables.entries.items ≡ []) × (tables.most ≡ index)) }
     {
         let most = index as usize;
         Ok(ArchiveTables {
@@ -79,6 +82,7 @@ impl ArchiveTables {
         ensures keeps { KeepsSource src.old.seen src.new.seen }
         ensures archives { self.new.archives ≡ self.old.archives }
         ensures entries { self.new.entries ≡ self.old.entries }
+        ensures limit { self.new.most ≡ self.old.most }
         ensures walks { (file : List ℕ) → src.old.seen.file ≡ Some file →
             WalksMembers file self.old.members.items self.new.members.items result }
     {
@@ -98,6 +102,7 @@ impl ArchiveTables {
         ensures keeps { KeepsSource src.old.seen src.new.seen }
         ensures archives { self.new.archives ≡ self.old.archives }
         ensures entries { self.new.entries ≡ self.old.entries }
+        ensures limit { self.new.most ≡ self.old.most }
         ensures passes { (file : List ℕ) → src.old.seen.file ≡ Some file → length file < 2 ^ 63 →
             PassesMembers file self.old.members.items self.new.members.items result }
     {
@@ -120,6 +125,7 @@ impl ArchiveTables {
     fn add_member(&mut self, at: u64) -> Result<(), LinkFault>
         ensures archives { self.new.archives ≡ self.old.archives }
         ensures entries { self.new.entries ≡ self.old.entries }
+        ensures limit { self.new.most ≡ self.old.most }
         ensures adds { AddsElement self.old.members.items self.new.members.items at at result }
     {
         if self.members.len() >= self.most || self.members.push(at).is_err() {
@@ -135,6 +141,7 @@ impl ArchiveTables {
     pub(crate) fn add_entry(&mut self, entry: IndexEntry, at: u64) -> Result<(), LinkFault>
         ensures archives { self.new.archives ≡ self.old.archives }
         ensures members { self.new.members ≡ self.old.members }
+        ensures within { KeepsWithin self.old self.new }
         ensures adds { AddsElement self.old.entries.items self.new.entries.items entry at result }
     {
         if self.entries.len() >= self.most || self.entries.push(entry).is_err() {

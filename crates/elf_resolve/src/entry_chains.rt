@@ -1,5 +1,6 @@
 //! The entries of indexes and the further definitions by their keys.
 ghost use Rattle.std.specs.Prelude.{◌≡◌, ◌+◌, length};
+ghost use Rattle.elf_resolve.specs.KeptLimits.{HasRoomForKeys};
 ghost use Rattle.elf_resolve.specs.KeyChains.{HasLists};
 ghost use Rattle.elf_resolve.specs.KeyLists.{AreKeyedEntries, AreKeyedFurther, HasNumberRoom, ListsEntry, entry_numbers, further_places};
 
@@ -26,6 +27,7 @@ impl Resolver<'_> {
             AreKeyedFurther self.old.further.keys further →
             HasNumberRoom self.old.further (length further) →
             HasLists self.new.further 0 (λ key. further_places key 0 further) }
+        ensures room { HasRoomForKeys self.old.link.keys }
     {
         list_further(&mut self.further, self.link.keys.further());
     }

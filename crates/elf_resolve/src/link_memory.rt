@@ -1,7 +1,8 @@
 //! The memory of a link, in parts.
-ghost use Rattle.std.specs.Prelude.{◌≡◌, [], IfOk, true, ℕ};
+ghost use Rattle.std.specs.Prelude.{◌≡◌, [], IfOk, None, false, get_or, true, ℕ};
 ghost use Rattle.elf_model.specs.LinkKeys.{no_keys};
 ghost use Rattle.elf_resolve.specs.LinkPlaces.{is_new_input};
+ghost use Rattle.elf_resolve.specs.ListRooms.{AreEmptyLists};
 
 use crate::archives::ArchiveTables;
 use crate::key_chains::KeyChains;
@@ -16,6 +17,10 @@ use bumpalo::Bump;
 use elf_model::LinkRowKind;
 use std::alloc::{AllocError, Global};
 use std::hash::RandomState;
+
+/// The most entries of all indexes: each has two numbers in lists by keys, which are below the one
+/// that ends a list.
+const MOST_ENTRIES: u32 = 0x7fff_ffff;
 
 /// What is listed of archives, and by keys.
 #[derive(Drop)]
@@ -62,7 +67,9 @@ pub(crate) fn new_link<'a>(
     caps: &LinkCaps,
     memory: &'a Bump,
 ) -> Result<Link<'a>, AllocError>
-    ensures { IfOk result (λ link. (link.keys.keys ≡ no_keys) × (link.rows.rows ≡ [])) }
+    ensures empty { IfOk result (λ link. (link.keys.keys ≡ no_keys) × (link.rows.rows ≡ [])) }
+    ensures limits { IfOk result (λ link. (link.keys.most ≡ caps.now.keys)
+        × (link.keys.most_further ≡ caps.now.index)) }
 {
     let bytes = caps.key_bytes;
     let keys = KeyTable::new(alloc, hasher, caps.keys, caps.index, memory, bytes)?;
@@ -76,14 +83,16 @@ impl KeyLists {
     /// # Errors
     /// Out of memory.
     pub(crate) fn new(alloc: Global, caps: &LinkCaps) -> Result<KeyLists, AllocError>
-        ensures { IfOk result (λ lists. (lists.tables.archives.items ≡ [])
+        ensures empty { IfOk result (λ lists. (lists.tables.archives.items ≡ [])
             × (lists.tables.members.items ≡ [])) }
+        ensures lists { IfOk result (AreEmptyLists caps.now) }
     {
-        let entries = caps.index as usize;
+        let entries = caps.index.min(MOST_ENTRIES);
+        let numbers = (entries as usize).saturating_mul(2);
         Ok(KeyLists {
-            tables: ArchiveTables::new(alloc, caps.index, caps.rows)?,
-            offers: KeyChains::new(alloc, caps.keys, entries.saturating_mul(2))?,
-            further: KeyChains::new(alloc, caps.keys, entries)?,
+            tables: ArchiveTables::new(alloc, entries, caps.rows)?,
+            offers: KeyChains::new(alloc, caps.keys, numbers)?,
+            further: KeyChains::new(alloc, caps.keys, caps.index as usize)?,
             spare: SpareKeys::new(alloc, caps.keys, caps.index)?,
         })
     }
@@ -95,8 +104,12 @@ impl RowMarks {
     /// # Errors
     /// Out of memory.
     pub(crate) fn new(alloc: Global, caps: &LinkCaps) -> Result<RowMarks, AllocError>
-        ensures { IfOk result (λ marks. (marks.taken.items ≡ [])
+        ensures empty { IfOk result (λ marks. (marks.taken.items ≡ [])
             × (marks.libraries.libraries.items ≡ [])) }
+        ensures kinds { IfOk result
+            (λ marks. (row : ℕ) → get_or marks.kinds.items row None ≡ None) }
+        ensures problems { IfOk result
+            (λ marks. (row : ℕ) → get_or marks.problems.items row false ≡ false) }
     {
         Ok(RowMarks {
             taken: Vec::with_capacity(alloc, caps.index as usize)?,

@@ -1,6 +1,7 @@
 //! The members of an archive that its index asks for.
 ghost use Rattle.std.specs.Prelude.{◌≡◌, IfOk, List, OnOk, ℕ};
 ghost use Rattle.elf_model.specs.LinkPasses.{ArchiveMembers, archive_searched, asks_for as asks_by, entry_visited, index_name, index_passed, is_new as is_new_of, is_taken as is_taken_of, key_of_entry as key_of, member_row as row_of};
+ghost use Rattle.elf_resolve.specs.KeptLimits.{KeepsLimits};
 ghost use Rattle.elf_model.specs.Names.{DisplayedName};
 ghost use Rattle.elf_resolve.specs.MemberNames.{RowName};
 ghost use Rattle.elf_resolve.specs.Passing.{Moved, TookObject, searched_archive, pass_of};
@@ -157,6 +158,7 @@ pub fn visit_entry<'a, M: ArchiveObjects>(
     ensures visits { M.known members.old → OnOk result (pass_of link.new taken.new
         ≡ entry_visited (searched_archive archive (M.members members.old)) (pass_of link.old taken.old)
         entry) }
+    ensures limits { M.known members.old → OnOk result (KeepsLimits link.old.keys link.new.keys) }
     ensures names { M.known members.old → OnOk result
         (KeepsNames archive.input (M.named members.old) link.old.rows.rows link.new.rows.rows
         (M.names members.old) (M.names members.new)) }
@@ -195,6 +197,7 @@ pub fn pass_index<'a, M: ArchiveObjects>(
     ensures passes { M.known members.old → OnOk result (pass_of link.new taken.new
         ≡ index_passed (searched_archive archive (M.members members.old)) (pass_of link.old taken.old)
         entries.now) }
+    ensures limits { M.known members.old → OnOk result (KeepsLimits link.old.keys link.new.keys) }
     ensures names { M.known members.old → OnOk result
         (KeepsNames archive.input (M.named members.old) link.old.rows.rows link.new.rows.rows
         (M.names members.old) (M.names members.new)) }
@@ -224,6 +227,7 @@ pub fn search_archive<'a, M: ArchiveObjects>(
     ensures searches { M.known members.old → OnOk result (pass_of link.new taken.new
         ≡ archive_searched (searched_archive archive (M.members members.old)) entries.now
         (pass_of link.old taken.old)) }
+    ensures limits { M.known members.old → OnOk result (KeepsLimits link.old.keys link.new.keys) }
     ensures names { M.known members.old → OnOk result
         (KeepsNames archive.input (M.named members.old) link.old.rows.rows link.new.rows.rows
         (M.names members.old) (M.names members.new)) }

@@ -1,5 +1,5 @@
 //! The inputs of a link in their order.
-ghost use Rattle.std.specs.Prelude.{◌≡◌, ◌≢◌, ◌+◌, ◌<◌, ◌∷◌, [], false, ℕ, List, length, map, IfOk, OnOk, None, Ok, Some, get_or};
+ghost use Rattle.std.specs.Prelude.{◌≡◌, ◌≢◌, ◌+◌, ◌<◌, ◌∷◌, [], false, ℕ, List, length, map, IfOk, OnOk, None, Ok, Some};
 ghost use Rattle.std.specs.List.{slice_get};
 ghost use Rattle.std.proofs.Math.ListN.{set};
 ghost use Rattle.elf_model.specs.LinkArchives.{LinkFiles, files_as_inputs, names_of_files};
@@ -8,10 +8,13 @@ ghost use Rattle.elf_resolve.specs.StaticLinks.{AreRowsNamed};
 ghost use Rattle.elf_source.specs.Prelude.{IsWholeRange};
 ghost use Rattle.elf_resolve.specs.LinkMembers.{file_of_range};
 ghost use Rattle.elf_resolve.specs.LinkPlaces.{IsLinkAt, input_made, is_new_input};
+ghost use Rattle.elf_resolve.specs.ListRooms.{HasListRoom};
+ghost use Rattle.elf_resolve.specs.OwnLinks.{IsOwnLink};
 ghost use Rattle.elf_resolve.specs.Plans.{IsStaticPlan, planned_files, plan_steps};
 ghost use Rattle.elf_resolve.specs.Resolved.{linking_of};
 ghost use Rattle.elf_resolve.specs.NamedRows.{HasNames};
 ghost use Rattle.elf_resolve.specs.ResolvedInputs.{AddedRowOf, AskedNames, IsAtStep, IsFresh, IsLink, IsPlanned, OpenedGroup, TookAll, TookInput};
+ghost use Rattle.elf_resolve.specs.StaticLinks.{AreKeysListed};
 
 use crate::archives::ArchiveTables;
 use crate::key_chains::KeyChains;
@@ -168,6 +171,9 @@ impl<'a> Resolver<'a> {
             self.new.end ≡ None → OnOk result (linking_of self.new ≡ linked
             (files_as_inputs (planned_files (F.file files.old) plan.now
             self.old.room.headers)) (map (λ name. name.now) asked.now) inputs) }
+        ensures listed { (inputs : LinkInputs) → IsFresh self.old →
+            IsStaticPlan (F.file files.old) plan.now → plan_steps inputs ≡ plan.now.steps.items →
+            self.new.end ≡ None → OnOk result (AreKeysListed self.new) }
         ensures text { F.text files.new ≡ F.text files.old }
         ensures names { (inputs : LinkInputs) → IsFresh self.old →
             IsStaticPlan (F.file files.old) plan.now → plan_steps inputs ≡ plan.now.steps.items →
@@ -176,7 +182,6 @@ impl<'a> Resolver<'a> {
         ensures named { (inputs : LinkInputs) (path : ℕ → List ℕ) → IsFresh self.old →
             IsStaticPlan (F.file files.old) plan.now → plan_steps inputs ≡ plan.now.steps.items →
             ((input : ℕ) → F.text files.old input ≡ Some (path input)) →
-            ((row : ℕ) → get_or self.new.kinds.items row None ≡ None) →
             self.new.end ≡ None → OnOk result (AreRowsNamed (F.text files.new)
             (names_of_files (planned_files (F.file files.old) plan.now self.old.room.headers)
             path) self.new) }
@@ -189,7 +194,9 @@ impl<'a> Resolver<'a> {
     /// Lists by their keys what the lines of keys name, and marks the rows that those of faults
     /// name.
     fn list_by_keys(&mut self)
-        ensures link { linking_of self.new ≡ linking_of self.old }
+        ensures same { linking_of self.new ≡ linking_of self.old }
+        ensures lists { HasListRoom self.old → IsOwnLink (linking_of self.old) →
+            AreKeysListed self.new }
         ensures room { self.new.room ≡ self.old.room }
         ensures kinds { self.new.kinds ≡ self.old.kinds }
     {
@@ -204,6 +211,7 @@ impl<'a> Resolver<'a> {
     /// A file cannot be opened or read.
     fn end_with(&mut self, taken: Result<(), LinkFault>) -> Result<(), LinkFault>
         ensures same { linking_of self.new ≡ linking_of self.old }
+        ensures rest { self.new ≡ record self.old { end = self.new.end } }
         ensures ends { self.new.end ≡ None → OnOk result (taken ≡ Ok tt) }
         ensures room { self.new.room ≡ self.old.room }
         ensures kinds { self.new.kinds ≡ self.old.kinds }
@@ -234,6 +242,9 @@ impl<'a> Resolver<'a> {
             OnOk result (linking_of self.new ≡ linked
             (files_as_inputs (planned_files (F.file files.old) plan.now
             self.old.room.headers)) (map (λ name. name.now) asked.now) inputs) }
+        ensures room { (inputs : LinkInputs) → IsFresh self.old →
+            IsStaticPlan (F.file files.old) plan.now → plan_steps inputs ≡ plan.now.steps.items →
+            OnOk result (HasListRoom self.new) }
         ensures text { F.text files.new ≡ F.text files.old }
         ensures names { (inputs : LinkInputs) → IsFresh self.old →
             IsStaticPlan (F.file files.old) plan.now → plan_steps inputs ≡ plan.now.steps.items →

@@ -1,5 +1,5 @@
 //! The keys that shared libraries have which are not needed.
-ghost use Rattle.std.specs.Prelude.{◌≡◌};
+ghost use Rattle.std.specs.Prelude.{◌≡◌, [], IfOk};
 ghost use Rattle.elf_resolve.specs.KeyChains.{first_number};
 
 use crate::key_chains::KeyChains;
@@ -21,7 +21,9 @@ impl SpareKeys {
     ///
     /// # Errors
     /// Out of memory.
-    pub(crate) fn new(alloc: Global, keys: u32, most: u32) -> Result<SpareKeys, AllocError> {
+    pub(crate) fn new(alloc: Global, keys: u32, most: u32) -> Result<SpareKeys, AllocError>
+        ensures { IfOk result (λ spare. spare.chains.heads ≡ []) }
+    {
         let most = most as usize;
         Ok(SpareKeys {
             chains: KeyChains::new(alloc, keys, most)?,

@@ -2,6 +2,7 @@
 ghost use Rattle.std.specs.Prelude.{◌≡◌, ◌+◌, ◌<◌, ◌≤◌, ◌^◌, false, vec_capacity, IfOk, MatchResult, OnOk, length, [], get_or};
 ghost use Rattle.elf_model.specs.LinkKeys.{references_after as asked_of, entry_named_as, key_in, no_keys, order_after, with_entry};
 ghost use Rattle.elf_model.specs.LinkObjects.{is_kept as is_kept_at, kept as kept_at};
+ghost use Rattle.elf_resolve.specs.KeptLimits.{HasRoomForKeys};
 ghost use Rattle.elf_resolve.specs.KeyTables.{AddsFurther, Enters, KeptGroup, NotedSection, UsesKey};
 
 use crate::steps::{is_further, used};
@@ -208,7 +209,8 @@ impl<'a> KeyTable<'a> {
 
     /// Returns the further definitions of keys that were defined already.
     pub fn further(&self) -> &[FurtherDefinition]
-        ensures { result.now ≡ self.now.keys.further }
+        ensures items { result.now ≡ self.now.keys.further }
+        ensures room { HasRoomForKeys self.now }
     {
         &self.further
     }

@@ -28,6 +28,10 @@ returns-clause-visits g c known =
     member_by archive held c.args.entry c.in-Some.index _ c.member_row-row.result _ added.index_is (taken.keys ∙ ap members c.in_ok-asks_for.ensures.same) c.member_row-row.ensures added.rows
     ∙ sym (visited_takes archive held c.args.entry (sym (c.in_ok-asks_for.ensures.asks known) ∙ c.if-not-branch.false) (sym c.is_taken.ensures ∙ c.if-is_taken.false))
 
+pub returns-clause-limits : goal.returns-clause-limits
+returns-clause-limits g c known =
+    let taken = c.in_ok-take.ensures.takes (c.asks_for.ensures.known known) in
+    record { most = taken.most; most_further = taken.most_further }
 pub returns-clause-names : goal.returns-clause-names
 returns-clause-names g c known =
     let added = c.in-Some.ensures in

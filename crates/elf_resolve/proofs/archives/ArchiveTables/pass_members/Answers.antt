@@ -9,6 +9,7 @@ loop-at-init g c = record {
   keeps = search rules;
   archives = refl;
   entries = refl;
+  limit = refl;
   passed = λ file held small. passes_begin file c.args.self.now.members.items;
 }
 
@@ -17,6 +18,7 @@ loop-at-preserved g c = record {
   keeps = search rules;
   archives = search rules;
   entries = search rules;
+  limit = search rules;
   passed = λ file held small.
       let now = c.loop-at.invariant.keeps.same_file ∙ held in
       rw c.padded_end-at.ensures

@@ -1,6 +1,12 @@
-use Rattle.std.proofs.Common.{ℕ, List, ap, ◌∙◌}
+use Rattle.std.proofs.Common.{List, ℕ, get_or, map, ap, sym, subst, ◌∙◌}
+use Rattle.std.specs.Borrow.{Bor}
+use Rattle.elf_model.specs.LinkArchives.{files_as_inputs}
+use Rattle.elf_resolve.specs.OwnLinks.{IsOwnLink}
+use Rattle.elf_resolve.proofs.ListedLaws.{listed_ended}
+use Rattle.elf_resolve.proofs.OwnFileLaws.{files_own}
+use Rattle.elf_resolve.proofs.OwnLinkLaws.{linked_own}
 use Rattle.elf_resolve.proofs.TakenMemberLaws.{on_ok, on_ok_then}
-use Rattle.std.specs.Prelude.{Option}
+use Rattle.std.specs.Prelude.{None, Option}
 use Rattle.elf_model.specs.LinkInputs.{Linking}
 use Rattle.elf_resolve.specs.Plans.{planned_files}
 use Rattle.elf_resolve.specs.declared.room.LinkRoom.{LinkRoom}
@@ -9,21 +15,32 @@ use Rattle.elf_resolve.proofs.resolver.Resolver.resolve.Goals as goal
 
 pub returns-clause-links : goal.returns-clause-links
 returns-clause-links g c = λ inputs fresh static steps ends.
-    on_ok_then _ _ c.end_with.result (λ was. c.end_with.ensures.same ∙ c.list_by_keys.ensures.link ∙ on_ok _ _ _ was (c.take_all-taken.ensures.links inputs fresh static steps)) (c.end_with.ensures.ends ends)
+    on_ok_then _ _ c.end_with.result (λ was. c.end_with.ensures.same ∙ c.list_by_keys.ensures.same ∙ on_ok _ _ _ was (c.take_all-taken.ensures.links inputs fresh static steps)) (c.end_with.ensures.ends ends)
+
+pub returns-clause-listed : goal.returns-clause-listed
+returns-clause-listed g c = λ inputs fresh static steps ends.
+    let all = planned_files (g.F.InputFiles.file c.args.files.now) c.args.plan.now c.args.self.now.room.headers in
+    let names = map (λ (a : Bor (List ℕ)). a.now) c.args.asked.now in
+    on_ok_then _ _ c.end_with.result (λ was.
+    let made = on_ok _ _ _ was (c.take_all-taken.ensures.links inputs fresh static steps) in
+    let own = subst (λ l. IsOwnLink l) (sym made) (linked_own (files_as_inputs all) names inputs (files_own all)) in
+    listed_ended c.list_by_keys.new.self c.end_with.new.self c.end_with.ensures.rest
+    (c.list_by_keys.ensures.lists (on_ok _ _ _ was (c.take_all-taken.ensures.room inputs fresh static steps)) own)) (c.end_with.ensures.ends ends)
 
 pub returns-clause-names : goal.returns-clause-names
 returns-clause-names g c = λ inputs fresh static steps ends.
     let all = planned_files (g.F.InputFiles.file c.args.files.now) c.args.plan.now c.args.self.now.room.headers in
     let names = ap (λ (r : LinkRoom). r.names) (c.end_with.ensures.room ∙ c.list_by_keys.ensures.room) in
-    let rows = ap (λ (l : Linking). l.rows) (c.end_with.ensures.same ∙ c.list_by_keys.ensures.link) in
+    let rows = ap (λ (l : Linking). l.rows) (c.end_with.ensures.same ∙ c.list_by_keys.ensures.same) in
     on_ok_then _ _ c.end_with.result (λ was. rows_still all c.take_all-taken.new.self c.end_with.new.self names rows (on_ok _ _ _ was (c.take_all-taken.ensures.names inputs fresh static steps))) (c.end_with.ensures.ends ends)
 
 pub returns-clause-named : goal.returns-clause-named
-returns-clause-named g c = λ inputs path fresh static steps paths kinds ends.
+returns-clause-named g c = λ inputs path fresh static steps paths ends.
     let all = planned_files (g.F.InputFiles.file c.args.files.now) c.args.plan.now c.args.self.now.room.headers in
     let names = ap (λ (r : LinkRoom). r.names) (c.end_with.ensures.room ∙ c.list_by_keys.ensures.room) in
-    let rows = ap (λ (l : Linking). l.rows) (c.end_with.ensures.same ∙ c.list_by_keys.ensures.link) in
+    let rows = ap (λ (l : Linking). l.rows) (c.end_with.ensures.same ∙ c.list_by_keys.ensures.same) in
     on_ok_then _ _ c.end_with.result
-    (λ was. rows_are_named all path (g.F.InputFiles.text c.take_all-taken.new.files) c.end_with.new.self (λ input. ap (λ (t : ℕ → Option (List ℕ)). t input) c.take_all-taken.ensures.text ∙ paths input) kinds
+    (λ was. rows_are_named all path (g.F.InputFiles.text c.take_all-taken.new.files) c.end_with.new.self (λ input. ap (λ (t : ℕ → Option (List ℕ)). t input) c.take_all-taken.ensures.text ∙ paths input)
+    (λ index. ap (λ k. get_or k.items index None) (c.end_with.ensures.kinds ∙ c.list_by_keys.ensures.kinds) ∙ (on_ok _ _ _ was (c.take_all-taken.ensures.room inputs fresh static steps)).kinds index)
     (rows_still all c.take_all-taken.new.self c.end_with.new.self names rows (on_ok _ _ _ was (c.take_all-taken.ensures.names inputs fresh static steps))))
     (c.end_with.ensures.ends ends)
