@@ -19,7 +19,8 @@ sys.path.insert(0, os.path.join(os.path.dirname(os.path.realpath(__file__)), "..
 from testing import TOP, Counts, option_reader, program_of
 
 STATES = {"ok", "refused", "no-elf", "unread", "memory", "unnamed", "found", "missing", "unused", "nofile", "bare",
-          "nover", "bound", "weak", "unbound", "absent"}
+          "nover", "bound", "weak", "unbound", "absent", "unneeded", "same", "defined", "weakdef", "common", "shared",
+          "multiple", "order", "undef", "linker"}
 ENDS_OF_NEEDS = {"too-many-objects", "too-many-paths"}
 TO_DO = " What to do: "
 
@@ -81,7 +82,9 @@ def of_man_page():
 def causes_of_sources():
     with open(os.path.join(TOP, "crates/elf_format/src/rows.rt"), encoding="utf-8") as file:
         rows = re.search(r"CAUSE_WORDS: \[&str; \d+\] = \[(.*?)\];", file.read(), re.S)[1]
-    return set(re.findall(r'"([\w-]+)"', rows))
+    with open(os.path.join(TOP, "crates/elf_resolve/src/link_faults.rt"), encoding="utf-8") as file:
+        links = re.search(r"^pub fn link_cause_word.*?^}", file.read(), re.M | re.S)[0]
+    return set(re.findall(r'"([\w-]+)"', rows + links))
 
 
 def main():

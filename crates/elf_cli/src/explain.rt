@@ -4,6 +4,7 @@ ghost use Rattle.elf_cli.specs.Version.{VersionEnds};
 
 use crate::cause_texts::all_causes;
 use crate::exit_lines::{BAD_WORDS, ExitLine, OUT_OF_MEMORY};
+use crate::link_texts::{link_causes, link_states};
 use crate::outputs::{ERROR_LINE_BYTES, OUTPUT_BYTES, end_answer, write_rest};
 use crate::state_texts::all_states;
 use elf_format::show_escaped_text;
@@ -73,13 +74,20 @@ fn write_explanations<W: Sink>(words: &[&str], out: &mut Out<W>) -> Result<(), O
     Ok(())
 }
 
-/// Writes all explanations: those of causes, and then those of states.
+/// Returns the texts of explanations: those of causes, and then those of states.
+fn all_texts() -> [&'static [Explanation]; 4] {
+    [all_causes(), link_causes(), all_states(), link_states()]
+}
+
+/// Writes all explanations.
 ///
 /// # Errors
 /// A fault of the output.
 fn write_all<W: Sink>(out: &mut Out<W>) -> Result<(), OutFault> {
-    write_each(all_causes(), out)?;
-    write_each(all_states(), out)
+    for rows in all_texts() {
+        write_each(rows, out)?;
+    }
+    Ok(())
 }
 
 /// Writes these explanations.
@@ -105,10 +113,12 @@ fn write_explanation<W: Sink>(row: &Explanation, out: &mut Out<W>) -> Result<(),
 
 /// Returns the explanation of a cause or a state.
 fn explanation_of(word: &str) -> Option<&'static Explanation> {
-    match explained(all_causes(), word) {
-        Some(found) => Some(found),
-        None => explained(all_states(), word),
+    for rows in all_texts() {
+        if let Some(found) = explained(rows, word) {
+            return Some(found);
+        }
     }
+    None
 }
 
 /// Returns the explanation of a word among these.
@@ -154,21 +164,25 @@ fn report_unknown(alloc: Global, word: &str, errors: Stderr) -> Result<(), Alloc
 /// # Errors
 /// Out of memory.
 fn nearest(alloc: Global, word: &str) -> Result<&'static str, AllocError> {
-    let (cause, edits) = nearest_of(alloc, all_causes(), word)?;
-    let (state, others) = nearest_of(alloc, all_states(), word)?;
-    Ok(if others < edits { state } else { cause })
+    let mut best = ("", usize::MAX);
+    for rows in all_texts() {
+        best = nearer_of(alloc, rows, word, best)?;
+    }
+    Ok(best.0)
 }
 
-/// Returns the word among these that takes the fewest edits from another, and how many.
+/// Returns the word among these that takes the fewest edits from another, and how many, or the best
+/// of others if none takes fewer.
 ///
 /// # Errors
 /// Out of memory.
-fn nearest_of(
+fn nearer_of(
     alloc: Global,
     rows: &'static [Explanation],
     word: &str,
+    best: (&'static str, usize),
 ) -> Result<(&'static str, usize), AllocError> {
-    let mut best = ("", usize::MAX);
+    let mut best = best;
     for row in rows {
         let edits = levenshtein(alloc, row.word, word)?;
         if edits < best.1 {

@@ -17,6 +17,7 @@ mod explain;
 mod faults;
 mod files;
 mod line_sink;
+mod link_texts;
 mod listings;
 mod needs_arguments;
 mod options;

@@ -15,7 +15,8 @@ static STATES: [Explanation; 16] = [
     allowed, or is of a type that elfsee does not read: see the cause. Line L:
     so is this object, or it is no library. Line U: the records of versions of
     the object that should define it are malformed. Line B: the lookup ends at
-    a fault of this object.
+    a fault of this object. Line I of a link: so is this file, and the link
+    ends there.
     What to do: elfsee explain CAUSE says what a cause means.
 ",
     },
@@ -53,7 +54,8 @@ static STATES: [Explanation; 16] = [
         text: "    Line L: no directory that is searched has the library; its name is
     printed. Line I: the program interpreter is not there, or is not for this
     machine: the shell says 'No such file or directory' of a program that
-    exists.
+    exists. Line I of a link: there is no file of this path, or in no directory
+    that is searched the library.
     What to do: install the package that has it, or set LD_LIBRARY_PATH or a
     RUNPATH to its directory; elfsee reads --library-path instead of the
     variable.
@@ -62,6 +64,8 @@ static STATES: [Explanation; 16] = [
     Explanation {
         word: "unused",
         text: "    Line L: the program needs this library itself and uses no symbol of it.
+    Line G: no file defines the symbol, and only an argument or a section that
+    is dropped asks for it.
     What to do: link without it, or with --as-needed.
 ",
     },
@@ -96,7 +100,9 @@ static STATES: [Explanation; 16] = [
     },
     Explanation {
         word: "weak",
-        text: "    Line B: no object defines the symbol, and none has to: it is weak.
+        text: "    Line B: no object defines the symbol, and none has to: it is weak. Line G:
+    so does no file of the link; lines O have the archives that define it, of
+    which a weak reference takes no member.
 ",
     },
     Explanation {

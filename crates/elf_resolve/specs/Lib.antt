@@ -44,3 +44,7 @@ pub mod KeptLimits
 pub mod ListRooms
 pub mod OwnLinks
 pub mod NamedRows
+pub mod LibrarySymbols
+pub mod VersionTexts
+pub mod KeyMarks
+pub mod LibraryNeeds

@@ -1,5 +1,5 @@
 //! The inputs of a link in their order.
-ghost use Rattle.std.specs.Prelude.{◌≡◌, ◌≢◌, ◌+◌, ◌<◌, ◌∷◌, [], false, ℕ, List, length, map, IfOk, OnOk, None, Ok, Some};
+ghost use Rattle.std.specs.Prelude.{◌≡◌, ◌≢◌, ◌+◌, ◌<◌, ◌∷◌, [], false, ℕ, List, get_or, length, map, IfOk, OnOk, None, Ok, Some};
 ghost use Rattle.std.specs.List.{slice_get};
 ghost use Rattle.std.proofs.Math.ListN.{set};
 ghost use Rattle.elf_model.specs.LinkArchives.{LinkFiles, files_as_inputs, names_of_files};
@@ -185,6 +185,10 @@ impl<'a> Resolver<'a> {
             self.new.end ≡ None → OnOk result (AreRowsNamed (F.text files.new)
             (names_of_files (planned_files (F.file files.old) plan.now self.old.room.headers)
             path) self.new) }
+        ensures kinds { (inputs : LinkInputs) → IsFresh self.old →
+            IsStaticPlan (F.file files.old) plan.now → plan_steps inputs ≡ plan.now.steps.items →
+            self.new.end ≡ None →
+            OnOk result ((index : ℕ) → get_or self.new.kinds.items index None ≡ None) }
     {
         let taken = self.take_all(files, asked, plan);
         self.list_by_keys();
@@ -195,10 +199,10 @@ impl<'a> Resolver<'a> {
     /// name.
     fn list_by_keys(&mut self)
         ensures same { linking_of self.new ≡ linking_of self.old }
+        ensures kinds { self.new.kinds ≡ self.old.kinds }
         ensures lists { HasListRoom self.old → IsOwnLink (linking_of self.old) →
             AreKeysListed self.new }
         ensures room { self.new.room ≡ self.old.room }
-        ensures kinds { self.new.kinds ≡ self.old.kinds }
     {
         self.chain_entries();
         self.chain_further();

@@ -1,7 +1,9 @@
-use Rattle.std.proofs.Common.{List, ℕ, get_or, map, ap, sym, subst, ◌∙◌}
+use Rattle.std.proofs.Common.{List, ℕ, ap, get_or, map, sym, subst, ◌∙◌}
 use Rattle.std.specs.Borrow.{Bor}
 use Rattle.elf_model.specs.LinkArchives.{files_as_inputs}
+use Rattle.elf_resolve.specs.ListRooms.{HasListRoom}
 use Rattle.elf_resolve.specs.OwnLinks.{IsOwnLink}
+use Rattle.elf_resolve.specs.declared.resolver.Resolver.{Resolver}
 use Rattle.elf_resolve.proofs.ListedLaws.{listed_ended}
 use Rattle.elf_resolve.proofs.OwnFileLaws.{files_own}
 use Rattle.elf_resolve.proofs.OwnLinkLaws.{linked_own}
@@ -44,3 +46,13 @@ returns-clause-named g c = λ inputs path fresh static steps paths ends.
     (λ index. ap (λ k. get_or k.items index None) (c.end_with.ensures.kinds ∙ c.list_by_keys.ensures.kinds) ∙ (on_ok _ _ _ was (c.take_all-taken.ensures.room inputs fresh static steps)).kinds index)
     (rows_still all c.take_all-taken.new.self c.end_with.new.self names rows (on_ok _ _ _ was (c.take_all-taken.ensures.names inputs fresh static steps))))
     (c.end_with.ensures.ends ends)
+
+pub returns-clause-kinds : goal.returns-clause-kinds
+returns-clause-kinds g c = λ inputs fresh static steps ends.
+    on_ok_then _ _ c.end_with.result
+    (λ was.
+    let room : HasListRoom c.take_all-taken.new.self = on_ok _ _ _ was (c.take_all-taken.ensures.room inputs fresh static steps) in
+    λ index.
+    ap (λ (r : Resolver). get_or r.kinds.items index None) c.end_with.ensures.rest
+    ∙ ap (λ v. get_or v.items index None) c.list_by_keys.ensures.kinds
+    ∙ room.kinds index) (c.end_with.ensures.ends ends)
