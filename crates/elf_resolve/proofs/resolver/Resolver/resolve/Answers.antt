@@ -42,8 +42,10 @@ returns-clause-named g c = λ inputs path fresh static steps paths ends.
     let names = ap (λ (r : LinkRoom). r.names) (c.end_with.ensures.room ∙ c.list_by_keys.ensures.room) in
     let rows = ap (λ (l : Linking). l.rows) (c.end_with.ensures.same ∙ c.list_by_keys.ensures.same) in
     on_ok_then _ _ c.end_with.result
-    (λ was. rows_are_named all path (g.F.InputFiles.text c.take_all-taken.new.files) c.end_with.new.self (λ input. ap (λ (t : ℕ → Option (List ℕ)). t input) c.take_all-taken.ensures.text ∙ paths input)
-    (λ index. ap (λ k. get_or k.items index None) (c.end_with.ensures.kinds ∙ c.list_by_keys.ensures.kinds) ∙ (on_ok _ _ _ was (c.take_all-taken.ensures.room inputs fresh static steps)).kinds index)
+    (λ was.
+    let room : HasListRoom c.take_all-taken.new.self = on_ok _ _ _ was (c.take_all-taken.ensures.room inputs fresh static steps) in
+    rows_are_named all path (g.F.InputFiles.text c.take_all-taken.new.files) c.end_with.new.self (λ input. ap (λ (t : ℕ → Option (List ℕ)). t input) c.take_all-taken.ensures.text ∙ paths input)
+    (λ index. ap (λ v. get_or v.items index None) (c.end_with.ensures.kinds ∙ c.list_by_keys.ensures.kinds) ∙ room.kinds index)
     (rows_still all c.take_all-taken.new.self c.end_with.new.self names rows (on_ok _ _ _ was (c.take_all-taken.ensures.names inputs fresh static steps))))
     (c.end_with.ensures.ends ends)
 
