@@ -1,6 +1,6 @@
 -- When the definitions of a shared library make it needed.
 use Rattle.std.specs.Prelude.{ℕ, ◌||◌, if◌then◌else◌, Bool, true, false, List, Option, None, Some}
-use Rattle.elf_model.specs.LinkKeys.{LinkKeys, LinkSymbol, entry_named, entry_named_as, key_change, key_in}
+use Rattle.elf_model.specs.LinkKeys.{LinkKeys, entry_named, entry_named_as, key_change, key_in}
 use Rattle.elf_model.specs.declared.link_states.KeyEntry.{KeyEntry}
 use Rattle.elf_model.specs.declared.link_states.KeyState.{KeyState}
 use Rattle.elf_model.specs.declared.link_states.KeyState.TheVariants.{WeakDefined, Defined}
@@ -8,7 +8,6 @@ use Rattle.elf_model.specs.declared.link_states.KeyState.TheVariants as state
 use Rattle.elf_model.specs.declared.link_states.SharedDefinition.{SharedDefinition}
 use Rattle.elf_model.specs.declared.link_states.StateChange.{StateChange}
 use Rattle.elf_model.specs.declared.link_states.StateChange.TheVariants.{BecomesState}
-use Rattle.elf_model.specs.declared.link_states.SymbolRole.{SymbolRole}
 use Rattle.elf_model.specs.declared.link_states.SymbolRole.TheVariants.{Shared}
 use Rattle.elf_resolve.specs.KeyMarks.{NotedKeys, mark_of}
 use Rattle.elf_resolve.specs.LibrarySymbols.{library_use}
@@ -52,19 +51,11 @@ is_defined_state _ = false
 abbrev pub is_defined_name : LinkKeys → List ℕ → Bool
 is_defined_name keys name = is_defined_state (entry_named keys name).state
 
--- WHO NEEDS A SYMBOL: no one a definition whose name without the version is defined
-abbrev pub definition_need : LinkKeys → NotedKeys → (name : List ℕ) → Option (List ℕ) → SharedDefinition → LibraryNeed
-definition_need keys marks name None definition = name_need keys marks name definition
-definition_need keys marks name (Some default) definition =
+-- WHO NEEDS A DEFINITION of a default version: no one if its name without the version is defined
+abbrev pub default_need : LinkKeys → NotedKeys → (name default : List ℕ) → SharedDefinition → LibraryNeed
+default_need keys marks name default definition =
     if is_defined_name keys default then no_need
     else joined_need (name_need keys marks name definition) (name_need keys marks default definition)
-
-abbrev pub need_by_role : LinkKeys → NotedKeys → (name : List ℕ) → Option (List ℕ) → SymbolRole → LibraryNeed
-need_by_role keys marks name default (Shared definition) = definition_need keys marks name default definition
-need_by_role keys marks name default _ = no_need
-
-abbrev pub need_of_symbol : LinkKeys → NotedKeys → LinkSymbol → LibraryNeed
-need_of_symbol keys marks s = need_by_role keys marks s.name s.default_name s.symbol.role
 
 -- the key of a name, if there is a name
 abbrev pub key_of_default : LinkKeys → Option (List ℕ) → Option ℕ

@@ -1,10 +1,7 @@
 //! Whether the definitions of a shared library make it needed.
-ghost use Rattle.std.specs.Prelude.{◌≡◌, List, ℕ, Option};
-ghost use Rattle.elf_resolve.specs.LibraryNeeds.{is_defined_name, joined_need, name_need};
-ghost use Rattle.elf_resolve.specs.LibraryNeeds.{need_of_symbol, takes_definition as takes_it};
-ghost use Rattle.elf_resolve.specs.LibrarySymbols.{library_use};
-ghost use Rattle.elf_resolve.specs.ObjectSymbols.{HoldsSome};
-ghost use Rattle.elf_resolve.specs.StringBuffers.{HoldsText};
+ghost use Rattle.std.specs.Prelude.{◌≡◌};
+ghost use Rattle.elf_resolve.specs.LibraryNeeds.{default_need, is_defined_name, joined_need, name_need};
+ghost use Rattle.elf_resolve.specs.LibraryNeeds.{takes_definition as takes_it};
 
 use crate::key_marks::KeyMarks;
 use crate::library::LibraryTables;
@@ -67,32 +64,39 @@ pub(crate) fn library_need(
     Ok(need)
 }
 
-/// Returns whether a definition makes its library needed: not one whose name without the version is
-/// defined already.
+/// Returns whether a symbol makes its library needed, which only a definition does.
 fn symbol_need(
     symbol: &LibrarySymbol,
     strings: &StringBuffer,
     keys: &KeyTable<'_>,
     marks: &KeyMarks,
-) -> LibraryNeed
-    ensures { (is : List ℕ) (default_is : Option (List ℕ)) →
-        HoldsText strings.now.bytes symbol.now.name is →
-        HoldsSome strings.now.bytes symbol.now.default default_is →
-        result ≡ need_of_symbol keys.now.keys marks.now
-        (record { name = is; default_name = default_is; symbol = library_use symbol.now.role }) }
-{
+) -> LibraryNeed {
     let SymbolRole::Shared(definition) = symbol.role else {
         return NO_NEED;
     };
-    let first = key_need(strings.bytes(symbol.name), definition, keys, marks);
-    let Some(default) = symbol.default else {
-        return first;
-    };
-    let default = strings.bytes(default);
+    let name = strings.bytes(symbol.name);
+    match symbol.default {
+        Some(default) => default_need(name, strings.bytes(default), definition, keys, marks),
+        None => key_need(name, definition, keys, marks),
+    }
+}
+
+/// Returns who needs a definition of a default version, by its name with the version and without
+/// it: no one if the name without the version is defined.
+fn default_need(
+    name: &[u8],
+    default: &[u8],
+    definition: SharedDefinition,
+    keys: &KeyTable<'_>,
+    marks: &KeyMarks,
+) -> LibraryNeed
+    ensures { result ≡ default_need keys.now.keys marks.now name.now default.now definition }
+{
     if is_defined(keys, default) {
         return NO_NEED;
     }
-    first.joined(key_need(default, definition, keys, marks))
+    let need = key_need(name, definition, keys, marks);
+    need.joined(key_need(default, definition, keys, marks))
 }
 
 /// Returns `true` if a name is defined.
