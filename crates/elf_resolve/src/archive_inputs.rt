@@ -16,6 +16,7 @@ ghost use Rattle.elf_model.specs.declared.link_states.LinkRow.{LinkRow};
 ghost use Rattle.elf_resolve.specs.EndsAtRefusal.{IsFaultOfIndex, LeavesRows, NoneRefused, StopsLink};
 ghost use Rattle.elf_resolve.specs.SearchStops.{EndsSearch, StopsWith};
 ghost use Rattle.elf_resolve.specs.Taken.{IsLinkFault, header_of};
+ghost use Rattle.elf_resolve.specs.NamedRows.{KeepsRowNames};
 
 use crate::archive_index::read_index;
 use crate::archive_searches::{
@@ -49,6 +50,9 @@ impl Resolver<'_> {
             IsArchiveAt files file self.old src.old.seen is_whole input →
             NoneRefused files self.old.link.rows.rows → LeavesRows files ⊥ self.new
             (input_taken (linking_of self.old) input (files_as_inputs files input)).rows result }
+        ensures names { (files : LinkFiles) (file : List ℕ) → IsLink files self.old →
+            IsArchiveAt files file self.old src.old.seen is_whole input →
+            OnOk result (KeepsRowNames files self.old self.new) }
     {
         let archive = self.open_archive(src, is_whole, input)?;
         if is_whole {
@@ -78,6 +82,7 @@ impl Resolver<'_> {
             NoneRefused files self.old.link.rows.rows → IfErr result
             (StopsLink files ⊥ self.new.link.rows.rows (input_taken (linking_of self.old) input
             (files_as_inputs files input)).rows self.new.row) }
+        ensures names { (files : LinkFiles) → OnOk result (KeepsRowNames files self.old self.new) }
     {
         let row = self.add_row(LinkRowKind::Archive, input)?;
         let first = self.tables.members.len();
@@ -122,6 +127,7 @@ impl Resolver<'_> {
         ensures below { src.new.seen.whole ≡ src.old.seen.whole }
         ensures keeps { KeepsArchives self.old self.new }
         ensures row { self.new.row ≡ self.old.row }
+        ensures names { self.new.room.names ≡ self.old.room.names }
         ensures enters { (file : List ℕ) → src.old.seen.file ≡ Some file →
             drop first self.old.tables.members.items ≡ map header_of (link_members file).members →
             first ≤ length self.old.tables.members.items → members_refusal file ≡ None →
@@ -146,6 +152,7 @@ impl Resolver<'_> {
     fn keep_archive(&mut self, archive: OpenedArchive) -> Result<(), LinkFault>
         ensures keeps { OnOk result (KeptArchive self.old self.new archive) }
         ensures limit { IfErr result (IsLinkFault None) }
+        ensures names { self.new.room ≡ self.old.room }
     {
         let index = self.tables.archives.len();
         self.set_state(archive.input, InputState::Archive(index));
@@ -182,6 +189,13 @@ impl Resolver<'_> {
             LeavesRows all ⊥ self.new (archive_again (linking_of self.old)
             (open_archive self.old.tables.entries.items self.old.taken.items a)
             (members_as_objects file (link_members file).members all.headers)).rows result }
+        ensures text { F.text files.new ≡ F.text files.old }
+        ensures names { (all : LinkFiles) (a : OpenedArchive) (file : List ℕ) →
+            IsLink all self.old →
+            slice_get self.old.tables.archives.items archive ≡ Some a →
+            archive_of_input self.old.tables.archives.items a.input ≡ Some a →
+            all.file a.input ≡ Some file → F.file files.old a.input ≡ Some file →
+            OnOk result (KeepsRowNames all self.old self.new) }
     {
         let Some(archive) = element_at(&self.tables.archives, archive) else {
             return Ok(());
@@ -214,6 +228,10 @@ impl Resolver<'_> {
             LeavesRows files ⊥ self.new (archive_again (linking_of self.old)
             (open_archive self.old.tables.entries.items self.old.taken.items archive)
             (members_as_objects file (link_members file).members files.headers)).rows result }
+        ensures names { (files : LinkFiles) (file : List ℕ) → IsLink files self.old →
+            archive_of_input self.old.tables.archives.items archive.input ≡ Some archive →
+            files.file archive.input ≡ Some file → file_of_range src.old.seen ≡ Some file →
+            OnOk result (KeepsRowNames files self.old self.new) }
     {
         let found = search_members(
             &mut self.link,
@@ -305,6 +323,10 @@ impl Resolver<'_> {
             (linking_of self.old)
             (whole_members file 0 (link_members file).members self.old.room.headers)).rows
             result }
+        ensures names { (files : LinkFiles) (file : List ℕ) →
+            files.file archive.input ≡ Some file → file_of_range src.old.seen ≡ Some file →
+            HasMembers file self.old.tables.members.items archive →
+            OnOk result (KeepsRowNames files self.old self.new) }
     {
         let count = range_of(&self.tables.members, archive.members).len();
         let Ok(count) = u32::try_from(count) else {
@@ -341,6 +363,10 @@ impl Resolver<'_> {
             LeavesRows files ⊥ self.new (members_taken archive.input archive.row
             (linking_of self.old) (whole_members file member (m ∷ []) self.old.room.headers)).rows
             result }
+        ensures names { (files : LinkFiles) (file : List ℕ) →
+            files.file archive.input ≡ Some file → file_of_range src.old.seen ≡ Some file →
+            HasMembers file self.old.tables.members.items archive →
+            OnOk result (KeepsRowNames files self.old self.new) }
     {
         let members = range_of(&self.tables.members, archive.members);
         let is_taken = is_file(src, members, member)?;
@@ -376,6 +402,10 @@ impl Resolver<'_> {
             LeavesRows files ⊥ self.new (with_object (linking_of self.old)
             (whole_row archive.input archive.row member)
             (or_empty (object_of (bytes_in file m.extent) self.old.room.headers))).rows result }
+        ensures names { (files : LinkFiles) (file : List ℕ) →
+            files.file archive.input ≡ Some file → file_of_range src.old.seen ≡ Some file →
+            HasMembers file self.old.tables.members.items archive →
+            OnOk result (KeepsRowNames files self.old self.new) }
     {
         let row = self.link.rows.add(member_row(archive, member));
         self.row = row;

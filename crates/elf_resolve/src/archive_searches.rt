@@ -15,6 +15,7 @@ ghost use Rattle.elf_resolve.specs.Resolved.{elements_in, linking_of, open_archi
 ghost use Rattle.elf_resolve.specs.ResolvedInputs.{EntersIndex, IsArchiveAt, IsLink, KeepsArchives, KeptArchive, OpenedAs, TookInput, TookMembers};
 ghost use Rattle.elf_resolve.specs.SearchStops.{EndsSearch};
 ghost use Rattle.elf_resolve.specs.Taken.{IsLinkFault, header_of};
+ghost use Rattle.elf_resolve.specs.RowNames.{AddsName, KeepsNames, member_names};
 
 use crate::archives::{ArchiveTables, OpenedArchive};
 use crate::link_faults::{LinkFault, refused};
@@ -71,6 +72,9 @@ pub(crate) fn take_member<S: Source>(
         HasMembers file tables.now.members.items place.archive →
         files.headers ≡ room.old.headers →
         TakesMember files file place.member place.row keys.old keys.new result }
+    ensures names { (file : List ℕ) → file_of_range src.old.seen ≡ Some file →
+        HasMembers file tables.now.members.items place.archive → OnOk result (AddsName
+        room.old.names room.new.names place.row (member_names (Some file) place.member)) }
 {
     let members = range_of(&tables.members, place.archive.members);
     let mut objects = MembersOfArchive {
@@ -126,6 +130,10 @@ pub(crate) fn search_members<S: Source>(
         (elements_in tables.now.entries.items archive.entries)
         (pass_of link.old (elements_in taken.old archive.members))).rows
         result.fault result.asked result.ended }
+    ensures names { (file : List ℕ) → file_of_range src.old.seen ≡ Some file →
+        HasMembers file tables.now.members.items archive → OnOk result.ended
+        (KeepsNames archive.input (member_names (Some file)) link.old.rows.rows
+        link.new.rows.rows room.old.names room.new.names) }
 {
     let members = range_of(&tables.members, archive.members);
     let entries = range_of(&tables.entries, archive.entries);

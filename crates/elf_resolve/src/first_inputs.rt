@@ -11,6 +11,7 @@ ghost use Rattle.elf_resolve.specs.LinkMembers.{file_of_range};
 ghost use Rattle.elf_resolve.specs.LinkPlaces.{IsLinkAt, input_made, is_new_input};
 ghost use Rattle.elf_resolve.specs.Plans.{IsStaticPlan, planned_files, plan_steps};
 ghost use Rattle.elf_resolve.specs.Resolved.{linking_of};
+ghost use Rattle.elf_resolve.specs.NamedRows.{KeepsRowNames};
 ghost use Rattle.elf_resolve.specs.ResolvedInputs.{AddedRowOf, AskedNames, IsAtStep, IsFresh, IsLink, IsPlanned, OpenedGroup, TookAll, TookInput};
 
 use crate::link_faults::{LinkFault, refused};
@@ -44,6 +45,11 @@ impl Resolver<'_> {
             NoneRefused all self.old.link.rows.rows →
             LeavesRows all (input.kind ≡ InputKind.BadScript) self.new
             (input_taken (linking_of self.old) index (files_as_inputs all index)).rows result }
+        ensures text { F.text files.new ≡ F.text files.old }
+        ensures names { (all : LinkFiles) → IsPlanned all (F.file files.old) index input →
+            IsLink all self.old →
+            slice_get self.old.states.items index ≡ Some InputState.New →
+            OnOk result (KeepsRowNames all self.old self.new) }
     {
         self.set_state(index, InputState::Done);
         self.take_kind(files, input, index)
@@ -71,6 +77,11 @@ impl Resolver<'_> {
             NoneRefused all self.old.link.rows.rows →
             LeavesRows all (input.kind ≡ InputKind.BadScript) self.new
             (input_taken (linking_of self.old) index (files_as_inputs all index)).rows result }
+        ensures text { F.text files.new ≡ F.text files.old }
+        ensures names { (all : LinkFiles) → IsPlanned all (F.file files.old) index input →
+            IsLink all self.old →
+            slice_get self.old.states.items index ≡ Some InputState.Done →
+            OnOk result (KeepsRowNames all self.old self.new) }
     {
         match input.kind {
             InputKind::Missing => {
@@ -110,6 +121,12 @@ impl Resolver<'_> {
             slice_get self.old.states.items index ≡ Some InputState.Done →
             NoneRefused all self.old.link.rows.rows → LeavesRows all ⊥ self.new
             (input_taken (linking_of self.old) index (files_as_inputs all index)).rows result }
+        ensures text { F.text files.new ≡ F.text files.old }
+        ensures names { (all : LinkFiles) (file : List ℕ) →
+            IsPlanned all (F.file files.old) index input →
+            F.file files.old index ≡ Some file → all.file index ≡ Some file → IsLink all self.old →
+            slice_get self.old.states.items index ≡ Some InputState.Done →
+            OnOk result (KeepsRowNames all self.old self.new) }
     {
         let mut src = self.open(files, index)?;
         let taken = self.take_file(files, &mut src, input, index);
@@ -128,6 +145,7 @@ impl Resolver<'_> {
     ) -> Result<Counted<RangeSource<F::InputSource>>, LinkFault>
         ensures same { self.new ≡ self.old }
         ensures file { F.file files.new ≡ F.file files.old }
+        ensures text { F.text files.new ≡ F.text files.old }
         ensures opens { (file : List ℕ) → F.file files.old input ≡ Some file → IfOk result
             (λ src. (src.seen.file ≡ Some file) × (file_of_range src.seen ≡ Some file)) }
         ensures limit { IfErr result (IsLinkFault None) }
@@ -175,6 +193,12 @@ impl Resolver<'_> {
             slice_get self.old.states.items index ≡ Some InputState.Done →
             NoneRefused all self.old.link.rows.rows → LeavesRows all ⊥ self.new
             (input_taken (linking_of self.old) index (files_as_inputs all index)).rows result }
+        ensures names { (all : LinkFiles) (file : List ℕ) →
+            IsPlanned all (F.file files.now) index input →
+            IsLink all self.old → src.old.seen.file ≡ Some file →
+            file_of_range src.old.seen ≡ Some file → all.file index ≡ Some file →
+            slice_get self.old.states.items index ≡ Some InputState.Done →
+            OnOk result (KeepsRowNames all self.old self.new) }
     {
         match input.kind {
             InputKind::Archive => self.take_archive(src, input.is_whole, index),
@@ -224,6 +248,7 @@ impl Resolver<'_> {
             all.is_archive index ≡ false →
             NoneRefused all self.old.link.rows.rows → LeavesRows all ⊥ self.new
             (input_taken (linking_of self.old) index (files_as_inputs all index)).rows result }
+        ensures names { (all : LinkFiles) → OnOk result (KeepsRowNames all self.old self.new) }
     {
         let row = self.add_row(LinkRowKind::Object, index)?;
         take_object(src, &mut self.room, &mut self.link.keys, row)

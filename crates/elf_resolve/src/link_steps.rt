@@ -11,6 +11,7 @@ ghost use Rattle.elf_resolve.specs.LinkMembers.{file_of_range};
 ghost use Rattle.elf_resolve.specs.LinkPlaces.{IsLinkAt, input_made, is_new_input};
 ghost use Rattle.elf_resolve.specs.Plans.{IsStaticPlan, planned_files, plan_steps};
 ghost use Rattle.elf_resolve.specs.Resolved.{linking_of};
+ghost use Rattle.elf_resolve.specs.NamedRows.{KeepsRowNames};
 ghost use Rattle.elf_resolve.specs.ResolvedInputs.{AddedRowOf, AskedNames, IsAtStep, IsFresh, IsLink, IsPlanned, OpenedGroup, TookAll, TookInput};
 
 use crate::archive_searches::element_at;
@@ -38,6 +39,12 @@ impl Resolver<'_> {
             let all = planned_files (F.file files.old) plan.now headers in
             IsAtStep all plan.now whole self.old 0 → NoneRefused all self.old.link.rows.rows →
             LeavesRows all (HasBadScript plan.now) self.new whole.rows result }
+        ensures text { F.text files.new ≡ F.text files.old }
+        ensures names { (headers : ℕ) (whole : Linking) →
+            IsStaticPlan (F.file files.old) plan.now →
+            let all = planned_files (F.file files.old) plan.now headers in
+            IsAtStep all plan.now whole self.old 0 →
+            OnOk result (KeepsRowNames all self.old self.new) }
     {
         let count = plan.steps.len();
         let mut place = 0;
@@ -75,6 +82,10 @@ impl Resolver<'_> {
             IsAtStep all plan.now whole self.old place →
             NoneRefused all self.old.link.rows.rows →
             LeavesRows all (HasBadScript plan.now) self.new whole.rows result }
+        ensures text { F.text files.new ≡ F.text files.old }
+        ensures names { (headers : ℕ) → IsStaticPlan (F.file files.old) plan.now →
+            let all = planned_files (F.file files.old) plan.now headers in
+            IsLink all self.old → OnOk result (KeepsRowNames all self.old self.new) }
     {
         let Some(step) = element_at(&plan.steps, place) else {
             return Err(LinkFault::Read);
@@ -121,6 +132,7 @@ impl Resolver<'_> {
             next ≡ place + 1 → slice_get plan.steps.items place ≡ Some LinkStep.Close →
             IsAtStep files plan whole self.old place →
             IfOk result (IsAtStep files plan whole self.new) }
+        ensures same { OnOk result (self.new ≡ record self.old { groups = self.new.groups }) }
     {
         let Some(group) = self.groups.pop() else {
             return Ok(next);
@@ -154,6 +166,10 @@ impl Resolver<'_> {
             LeavesRows all (HasBadScript plan.now) self.new
             (input_made (is_new_input self.old.states.items input) (linking_of self.old) input
             (files_as_inputs all input)).rows result }
+        ensures text { F.text files.new ≡ F.text files.old }
+        ensures names { (headers : ℕ) → IsStaticPlan (F.file files.old) plan.now →
+            let all = planned_files (F.file files.old) plan.now headers in
+            IsLink all self.old → OnOk result (KeepsRowNames all self.old self.new) }
     {
         let Some(known) = element_at(&plan.inputs, input as usize) else {
             return Err(LinkFault::Open);

@@ -78,7 +78,8 @@ impl Resolver<'_> {
         files: &mut F,
         library: usize,
     ) -> Result<(), LinkFault>
-        ensures { F.file files.new ≡ F.file files.old }
+        ensures file { F.file files.new ≡ F.file files.old }
+        ensures text { F.text files.new ≡ F.text files.old }
     {
         let Some(known) = self.libraries.get(library) else {
             return Ok(());
@@ -103,7 +104,8 @@ impl Resolver<'_> {
         library: usize,
         known: LinkLibrary,
     ) -> Result<LibraryEnd, LinkFault>
-        ensures { F.file files.new ≡ F.file files.old }
+        ensures file { F.file files.new ≡ F.file files.old }
+        ensures text { F.text files.new ≡ F.text files.old }
     {
         let mut src = self.open(files, known.input)?;
         let keys = &mut self.link.keys;
@@ -126,6 +128,7 @@ impl Resolver<'_> {
     pub(crate) fn offer_libraries<F: InputFiles>(&mut self, files: &mut F) -> Result<(), LinkFault>
         ensures same { self.old.libraries.libraries.items ≡ [] → self.new ≡ self.old }
         ensures done { self.old.libraries.libraries.items ≡ [] → result ≡ Ok tt }
+        ensures text { F.text files.new ≡ F.text files.old }
     {
         let count = self.libraries.len();
         if count == 0 {
@@ -145,7 +148,9 @@ impl Resolver<'_> {
         &mut self,
         files: &mut F,
         library: usize,
-    ) -> Result<(), LinkFault> {
+    ) -> Result<(), LinkFault>
+        ensures text { F.text files.new ≡ F.text files.old }
+    {
         let Some(known) = self.libraries.get(library) else {
             return Ok(());
         };

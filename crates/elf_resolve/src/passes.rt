@@ -3,8 +3,11 @@ ghost use Rattle.std.specs.Prelude.{◌≡◌, IfOk, List, None, OnErr, OnOk, Op
 ghost use Rattle.elf_model.specs.LinkPasses.{ArchiveMembers, archive_searched, asks_for as asks_by, entry_visited, index_name, index_passed, is_new as is_new_of, is_taken as is_taken_of, key_of_entry as key_of, member_row as row_of};
 ghost use Rattle.elf_resolve.specs.KeptLimits.{KeepsLimits};
 ghost use Rattle.elf_model.specs.declared.link_states.LinkRefusal.{LinkRefusal};
+ghost use Rattle.elf_model.specs.Names.{DisplayedName};
+ghost use Rattle.elf_resolve.specs.MemberNames.{RowName};
 ghost use Rattle.elf_resolve.specs.Passing.{Moved, TookObject, searched_archive, pass_of};
 ghost use Rattle.elf_resolve.specs.SearchStops.{AddsMembers};
+ghost use Rattle.elf_resolve.specs.RowNames.{AddsName, KeepsNames};
 
 use crate::rows::RowTable;
 use crate::table::{KeyTable, LinkStop};
@@ -30,7 +33,8 @@ pub struct ArchiveInput {
 
 /// The objects that are the members of an archive. What is promised of them is promised if they are
 /// `known`; what is `kept` stays the same. A fault is that of a member for which it has `stopped`, or
-/// one of a limit or the system if it has `halted` there.
+/// one of a limit or the system if it has `halted` there. `names` are held for rows, and a member is
+/// `named`.
 pub trait ArchiveObjects {
     ghost members: { Self → ArchiveMembers };
 
@@ -44,6 +48,10 @@ pub trait ArchiveObjects {
 
     ghost halted: { Self → ℕ → Type 0 };
 
+    ghost names: { Self → List RowName };
+
+    ghost named: { Self → (member : ℕ) → DisplayedName };
+
     /// Takes the groups and the symbols of a member, which has the row `row`.
     ///
     /// # Errors
@@ -54,6 +62,9 @@ pub trait ArchiveObjects {
         ensures accepts { known self.old → OnOk result (refusal self.old member ≡ None) }
         ensures stops { known self.old → OnErr result (stopped self.new member) }
         ensures same_refusal { refusal self.new ≡ refusal self.old }
+        ensures adds { known self.old
+            → OnOk result (AddsName (names self.old) (names self.new) row (named self.old member)) }
+        ensures named { named self.new ≡ named self.old }
         ensures same { members self.new ≡ members self.old }
         ensures kept { kept self.new ≡ kept self.old }
         ensures known { known self.old → known self.new };
@@ -68,6 +79,8 @@ pub trait ArchiveObjects {
             ≡ (members self.old).defines entry.member (index_name keys.now.keys entry)) }
         ensures halts { known self.old → OnErr result (halted self.new entry.member) }
         ensures same_refusal { refusal self.new ≡ refusal self.old }
+        ensures names { names self.new ≡ names self.old }
+        ensures named { named self.new ≡ named self.old }
         ensures same { members self.new ≡ members self.old }
         ensures kept { kept self.new ≡ kept self.old }
         ensures known { known self.old → known self.new };
@@ -116,6 +129,8 @@ fn asks_for<'a, M: ArchiveObjects>(
         (λ asks. asks ≡ asks_by (M.members members.old) keys.now.keys entry) }
     ensures halts { M.known members.old → OnErr result (M.halted members.new entry.member) }
     ensures same_refusal { M.refusal members.new ≡ M.refusal members.old }
+    ensures names { M.names members.new ≡ M.names members.old }
+    ensures named { M.named members.new ≡ M.named members.old }
     ensures same { M.members members.new ≡ M.members members.old }
     ensures kept { M.kept members.new ≡ M.kept members.old }
     ensures known { M.known members.old → M.known members.new }
@@ -167,6 +182,10 @@ pub fn visit_entry<'a, M: ArchiveObjects>(
         (entry_visited (searched_archive archive (M.members members.old))
         (pass_of link.old taken.old) entry).rows result }
     ensures same_refusal { M.refusal members.new ≡ M.refusal members.old }
+    ensures names { M.known members.old → OnOk result
+        (KeepsNames archive.input (M.named members.old) link.old.rows.rows link.new.rows.rows
+        (M.names members.old) (M.names members.new)) }
+    ensures named { M.named members.new ≡ M.named members.old }
     ensures same { M.members members.new ≡ M.members members.old }
     ensures kept { M.kept members.new ≡ M.kept members.old }
     ensures known { M.known members.old → M.known members.new }
@@ -208,6 +227,10 @@ pub fn pass_index<'a, M: ArchiveObjects>(
         (index_passed (searched_archive archive (M.members members.old))
         (pass_of link.old taken.old) entries.now).rows result }
     ensures same_refusal { M.refusal members.new ≡ M.refusal members.old }
+    ensures names { M.known members.old → OnOk result
+        (KeepsNames archive.input (M.named members.old) link.old.rows.rows link.new.rows.rows
+        (M.names members.old) (M.names members.new)) }
+    ensures named { M.named members.new ≡ M.named members.old }
     ensures same { M.members members.new ≡ M.members members.old }
     ensures kept { M.kept members.new ≡ M.kept members.old }
     ensures known { M.known members.old → M.known members.new }
@@ -240,6 +263,10 @@ pub fn search_archive<'a, M: ArchiveObjects>(
         (archive_searched (searched_archive archive (M.members members.old)) entries.now
         (pass_of link.old taken.old)).rows result }
     ensures same_refusal { M.refusal members.new ≡ M.refusal members.old }
+    ensures names { M.known members.old → OnOk result
+        (KeepsNames archive.input (M.named members.old) link.old.rows.rows link.new.rows.rows
+        (M.names members.old) (M.names members.new)) }
+    ensures named { M.named members.new ≡ M.named members.old }
     ensures same { M.members members.new ≡ M.members members.old }
     ensures kept { M.kept members.new ≡ M.kept members.old }
     ensures known { M.known members.old → M.known members.new }

@@ -2,8 +2,9 @@
 ghost use Rattle.std.specs.Prelude.{◌≡◌, ◌≢◌, ◌+◌, ◌<◌, ◌∷◌, [], false, ℕ, List, get_or, length, map, Err, IfErr, IfOk, OnOk, None, Ok, Some};
 ghost use Rattle.std.specs.List.{slice_get};
 ghost use Rattle.std.proofs.Math.ListN.{set};
-ghost use Rattle.elf_model.specs.LinkArchives.{LinkFiles, files_as_inputs};
+ghost use Rattle.elf_model.specs.LinkArchives.{LinkFiles, files_as_inputs, names_of_files};
 ghost use Rattle.elf_model.specs.LinkInputs.{LinkInputs, Linking, file_row, input_taken, linked, with_arguments};
+ghost use Rattle.elf_resolve.specs.StaticLinks.{AreRowsNamed};
 ghost use Rattle.elf_source.specs.Prelude.{IsWholeRange};
 ghost use Rattle.elf_resolve.specs.EndsAtRefusal.{EndsLink, HasBadScript, LeavesRows};
 ghost use Rattle.elf_resolve.specs.Taken.{IsLinkFault};
@@ -13,6 +14,7 @@ ghost use Rattle.elf_resolve.specs.ListRooms.{HasListRoom};
 ghost use Rattle.elf_resolve.specs.OwnLinks.{IsOwnLink};
 ghost use Rattle.elf_resolve.specs.Plans.{IsStaticPlan, planned_files, plan_steps};
 ghost use Rattle.elf_resolve.specs.Resolved.{linking_of};
+ghost use Rattle.elf_resolve.specs.NamedRows.{HasNames};
 ghost use Rattle.elf_resolve.specs.ResolvedInputs.{AddedRowOf, AskedNames, IsAtStep, IsFresh, IsLink, IsPlanned, OpenedGroup, TookAll, TookInput};
 ghost use Rattle.elf_resolve.specs.StaticLinks.{AreKeysListed};
 
@@ -175,6 +177,17 @@ impl<'a> Resolver<'a> {
         ensures listed { (inputs : LinkInputs) → IsFresh self.old →
             IsStaticPlan (F.file files.old) plan.now → plan_steps inputs ≡ plan.now.steps.items →
             self.new.end ≡ None → OnOk result (AreKeysListed self.new) }
+        ensures text { F.text files.new ≡ F.text files.old }
+        ensures names { (inputs : LinkInputs) → IsFresh self.old →
+            IsStaticPlan (F.file files.old) plan.now → plan_steps inputs ≡ plan.now.steps.items →
+            self.new.end ≡ None → OnOk result (HasNames
+            (planned_files (F.file files.old) plan.now self.old.room.headers) self.new) }
+        ensures named { (inputs : LinkInputs) (path : ℕ → List ℕ) → IsFresh self.old →
+            IsStaticPlan (F.file files.old) plan.now → plan_steps inputs ≡ plan.now.steps.items →
+            ((input : ℕ) → F.text files.old input ≡ Some (path input)) →
+            self.new.end ≡ None → OnOk result (AreRowsNamed (F.text files.new)
+            (names_of_files (planned_files (F.file files.old) plan.now self.old.room.headers)
+            path) self.new) }
         ensures kinds { (inputs : LinkInputs) → IsFresh self.old →
             IsStaticPlan (F.file files.old) plan.now → plan_steps inputs ≡ plan.now.steps.items →
             self.new.end ≡ None →
@@ -199,6 +212,7 @@ impl<'a> Resolver<'a> {
         ensures lists { HasListRoom self.old → IsOwnLink (linking_of self.old) →
             AreKeysListed self.new }
         ensures row { self.new.row ≡ self.old.row }
+        ensures room { self.new.room ≡ self.old.room }
     {
         self.chain_entries();
         self.chain_further();
@@ -215,6 +229,8 @@ impl<'a> Resolver<'a> {
         ensures ends { self.new.end ≡ None → OnOk result (taken ≡ Ok tt) }
         ensures refused { (end : LinkEnd) → self.new.end ≡ Some end → OnOk result
             ((taken ≡ Err (LinkFault.Refused end.refusal)) × (end.row ≡ self.old.row)) }
+        ensures room { self.new.room ≡ self.old.room }
+        ensures kinds { self.new.kinds ≡ self.old.kinds }
     {
         match taken {
             Ok(()) => {
@@ -253,6 +269,11 @@ impl<'a> Resolver<'a> {
             let all = planned_files (F.file files.old) plan.now self.old.room.headers in
             LeavesRows all (HasBadScript plan.now) self.new
             (linked (files_as_inputs all) (map (λ name. name.now) asked.now) inputs).rows result }
+        ensures text { F.text files.new ≡ F.text files.old }
+        ensures names { (inputs : LinkInputs) → IsFresh self.old →
+            IsStaticPlan (F.file files.old) plan.now → plan_steps inputs ≡ plan.now.steps.items →
+            OnOk result (HasNames
+            (planned_files (F.file files.old) plan.now self.old.room.headers) self.new) }
     {
         self.take_inputs(files, asked, plan)?;
         self.offer_libraries(files)
@@ -278,6 +299,11 @@ impl<'a> Resolver<'a> {
             let all = planned_files (F.file files.old) plan.now self.old.room.headers in
             LeavesRows all (HasBadScript plan.now) self.new
             (linked (files_as_inputs all) (map (λ name. name.now) asked.now) inputs).rows result }
+        ensures text { F.text files.new ≡ F.text files.old }
+        ensures names { (inputs : LinkInputs) → IsFresh self.old →
+            IsStaticPlan (F.file files.old) plan.now → plan_steps inputs ≡ plan.now.steps.items →
+            OnOk result (HasNames
+            (planned_files (F.file files.old) plan.now self.old.room.headers) self.new) }
     {
         self.ask_all(asked)?;
         self.take_steps(files, plan)
@@ -316,6 +342,7 @@ impl<'a> Resolver<'a> {
         ensures adds { IfOk result (AddedRowOf self.old self.new (file_row kind input)) }
         ensures row { IfOk result (λ index. self.new.row ≡ Some index) }
         ensures limit { IfErr result (IsLinkFault None) }
+        ensures room { self.new.room ≡ self.old.room }
     {
         let row = LinkRow {
             kind,

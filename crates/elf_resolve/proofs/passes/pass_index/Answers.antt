@@ -4,6 +4,7 @@ use Rattle.elf_resolve.specs.Passing.{pass_of}
 use Rattle.elf_resolve.proofs.ListRoomLaws.{limits_then}
 use Rattle.elf_resolve.proofs.PassingLaws.{moved_then, one_more}
 use Rattle.elf_resolve.proofs.SearchStopLaws.{added_more, entry_within, stops_after}
+use Rattle.elf_resolve.proofs.RowNameLaws.{held_then}
 use Rattle.elf_resolve.proofs.passes.pass_index.Goals as goal
 
 pub loop-i-preserved : goal.loop-i-preserved
@@ -14,6 +15,8 @@ loop-i-preserved g c = (
   c.visit_entry.ensures.kept ∙ c.loop-i.invariant.2,
   λ known. limits_then c.args.link.now.keys c.loop-i.link.keys c.visit_entry.new.link.keys (c.loop-i.invariant.3 known) (c.in_ok-visit_entry.ensures.limits (c.loop-i.invariant.1.known known)),
   added_more _ _ _ _ _ c.args.archive.input _ _ c.visit_entry.new.link.rows.rows c.loop-i.invariant.4 c.visit_entry.ensures.same_refusal c.loop-i.invariant.1.known c.in_ok-visit_entry.ensures.stops,
+  held_then _ _ _ _ (g.M.ArchiveObjects.named c.visit_entry.new.members) _ _ c.visit_entry.new.link.rows.rows _ _ (g.M.ArchiveObjects.names c.visit_entry.new.members) _ c.loop-i.invariant.1.known c.loop-i.invariant.5 c.visit_entry.ensures.named
+      c.in_ok-visit_entry.ensures.names,
 )
 
 pub returns-clause-stops : goal.returns-clause-stops

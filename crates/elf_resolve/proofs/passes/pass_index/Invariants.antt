@@ -3,6 +3,7 @@ use Rattle.elf_model.specs.LinkPasses.{index_passed}
 use Rattle.elf_resolve.specs.KeptLimits.{KeepsLimits}
 use Rattle.elf_resolve.specs.Passing.{Moved, PassedTo, searched_archive, pass_of}
 use Rattle.elf_resolve.proofs.SearchStopLaws.{AddedSoFar}
+use Rattle.elf_resolve.specs.RowNames.{HeldNames}
 use Rattle.elf_resolve.proofs.passes.pass_index.Given as goal
 
 abbrev pub invariant-loop-i : goal.invariant-loop-i
@@ -13,3 +14,5 @@ invariant-loop-i g l =
     × (g.M.ArchiveObjects.kept l.members ≡ g.M.ArchiveObjects.kept l.initial.members)
     × (g.M.ArchiveObjects.known l.initial.members → KeepsLimits l.initial.link.keys l.link.keys)
     × AddedSoFar (g.M.ArchiveObjects.known l.initial.members) (g.M.ArchiveObjects.refusal l.initial.members) (g.M.ArchiveObjects.refusal l.members) l.archive.input l.initial.link.rows.rows l.link.rows.rows
+    × HeldNames l.archive.input (g.M.ArchiveObjects.known l.initial.members) (g.M.ArchiveObjects.named l.initial.members) (g.M.ArchiveObjects.named l.members)
+    l.initial.link.rows.rows l.link.rows.rows (g.M.ArchiveObjects.names l.initial.members) (g.M.ArchiveObjects.names l.members)

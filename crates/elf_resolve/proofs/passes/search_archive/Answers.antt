@@ -4,6 +4,7 @@ use Rattle.elf_resolve.specs.Passing.{pass_of}
 use Rattle.elf_resolve.proofs.ListRoomLaws.{limits_then}
 use Rattle.elf_resolve.proofs.PassingLaws.{another, fewer_moved, last_pass}
 use Rattle.elf_resolve.proofs.SearchStopLaws.{added_more, pass_within, stops_after}
+use Rattle.elf_resolve.proofs.RowNameLaws.{held_then}
 use Rattle.elf_resolve.proofs.passes.search_archive.Goals as goal
 
 pub returns-then-asked-before-clause-searches : goal.returns-then-asked-before-clause-searches
@@ -26,6 +27,8 @@ loop-preserved g c = (
       c.pass_index.ensures.known c.in_ok-pass_index.ensures.passes (λ same. c.if-asked-before.false (c.asked.ensures ∙ same ∙ sym c.asked-before.ensures)),
   λ known. limits_then c.args.link.now.keys c.loop.link.keys c.pass_index.new.link.keys (c.loop.invariant.2 known) (c.in_ok-pass_index.ensures.limits (c.loop.invariant.1.known known)),
   added_more _ _ _ _ _ c.args.archive.input _ _ c.pass_index.new.link.rows.rows c.loop.invariant.3 c.pass_index.ensures.same_refusal c.loop.invariant.1.known c.in_ok-pass_index.ensures.stops,
+  held_then _ _ _ _ (g.M.ArchiveObjects.named c.pass_index.new.members) _ _ c.pass_index.new.link.rows.rows _ _ (g.M.ArchiveObjects.names c.pass_index.new.members) _ c.loop.invariant.1.known c.loop.invariant.4 c.pass_index.ensures.named
+      c.in_ok-pass_index.ensures.names,
 )
 
 pub returns-then-asked-before-clause-stops : goal.returns-then-asked-before-clause-stops
@@ -37,3 +40,8 @@ returns-in_err-pass_index-clause-stops g c = λ known.
     let p = err_from_is_err_and c.from_residual.result c.from_residual.ensures.1 in
     rw (p.1, p.2) (stops_after _ _ _ _ (g.M.ArchiveObjects.refusal c.pass_index.new.members) c.args.archive.input _ _ c.pass_index.new.link.rows.rows _ _ _ _ _ _ _ c.loop.invariant.3 c.loop.invariant.1.known
     (λ k. pass_within c.args.archive _ _ _ _ _ _ c.args.entries.now c.loop.invariant.1 k) c.loop.auto.taken c.in_err-pass_index.ensures.stops known)
+
+pub returns-then-asked-before-clause-names : goal.returns-then-asked-before-clause-names
+returns-then-asked-before-clause-names g c known =
+    (held_then _ _ _ _ (g.M.ArchiveObjects.named c.pass_index.new.members) _ _ c.pass_index.new.link.rows.rows _ _ (g.M.ArchiveObjects.names c.pass_index.new.members) _ c.loop.invariant.1.known c.loop.invariant.4 c.pass_index.ensures.named
+    c.in_ok-pass_index.ensures.names).keeps known

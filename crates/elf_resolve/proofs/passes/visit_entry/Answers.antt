@@ -1,4 +1,4 @@
-use Rattle.std.proofs.Common.{sym, ap, ◌∙◌}
+use Rattle.std.proofs.Common.{[], ◌∷◌, ◌++◌, sym, ap, ◌∙◌}
 use Rattle.std.specs.Prelude.{Some}
 use Rattle.std.proofs.lemmas.Result.{err_from_is_err_and}
 use Rattle.elf_model.specs.LinkKeys.{LinkKeys}
@@ -6,6 +6,8 @@ use Rattle.elf_model.specs.LinkObjects.{object_taken}
 use Rattle.elf_model.specs.LinkPasses.{ArchiveMembers}
 use Rattle.elf_model.specs.declared.link_states.LinkRow.{LinkRow}
 use Rattle.elf_resolve.specs.Passing.{searched_archive, pass_of}
+use Rattle.elf_model.specs.declared.link_states.LinkRow.{LinkRow}
+use Rattle.elf_resolve.proofs.RowNameLaws.{keeps_member}
 use Rattle.elf_resolve.proofs.PassLaws.{visited_again, visited_takes, visited_unasked}
 use Rattle.elf_resolve.proofs.PassingLaws.{member_by}
 use Rattle.elf_resolve.proofs.SearchStopLaws.{added_none, added_one, halts_at, stops_at, untaken_within, visit_adds}
@@ -64,3 +66,13 @@ returns-clause-stops g c known =
     let row_is = c.member_row-row.ensures in
     added_one (g.M.ArchiveObjects.refusal c.args.members.now) c.args.archive.input _ _ c.member_row-row.result c.args.entry.member c.in-Some.ensures.rows (ap (λ (r : LinkRow). r.member) row_is) (ap (λ (r : LinkRow). r.input) row_is)
     (ap (λ r. r c.args.entry.member) (sym c.in_ok-asks_for.ensures.same_refusal) ∙ c.in_ok-take.ensures.accepts (c.asks_for.ensures.known known))
+
+pub returns-clause-names : goal.returns-clause-names
+returns-clause-names g c known =
+    let added = c.in-Some.ensures in
+    let adds = c.in_ok-take.ensures.adds (c.asks_for.ensures.known known) in
+    let row = c.member_row-row.result in
+    keeps_member (g.M.ArchiveObjects.named c.args.members.now) c.args.link.now.rows.rows _ row c.in-Some.index c.args.archive.input c.args.entry.member (g.M.ArchiveObjects.names c.args.members.now) _ added.rows added.index_is
+    (ap (λ (r : LinkRow). r.input) c.member_row-row.ensures) (ap (λ (r : LinkRow). r.member) c.member_row-row.ensures)
+    (adds ∙ ap (λ f. g.M.ArchiveObjects.names c.asks_for.new.members ++ (record { row = c.in-Some.index; name = f c.args.entry.member }) ∷ []) c.asks_for.ensures.named
+    ∙ ap (λ l. l ++ (record { row = c.in-Some.index; name = g.M.ArchiveObjects.named c.args.members.now c.args.entry.member }) ∷ []) c.asks_for.ensures.names)

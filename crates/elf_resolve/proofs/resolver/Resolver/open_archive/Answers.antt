@@ -12,6 +12,9 @@ use Rattle.elf_model.specs.LinkInputs.{file_row}
 use Rattle.elf_model.specs.declared.link_states.LinkRowKind.TheVariants.{Archive}
 use Rattle.elf_resolve.proofs.RefusalLaws.{limit_stops}
 use Rattle.elf_resolve.proofs.StopLaws.{index_stops, members_stop}
+use Rattle.elf_resolve.specs.RowTables.{LinkRows}
+use Rattle.elf_resolve.specs.declared.room.LinkRoom.{LinkRoom}
+use Rattle.elf_resolve.proofs.NamedRowLaws.{file_added}
 use Rattle.elf_resolve.proofs.resolver.Resolver.open_archive.Goals as goal
 
 pub returns-clause-opens : goal.returns-clause-opens
@@ -66,3 +69,9 @@ returns-in_err-read_names-clause-stops g c = λ files file at none.
     c.in_err-read_names.ensures.row ∙ ap (λ (r : Resolver). r.row) c.mark_members.ensures.same ∙ c.in_ok-row.ensures.row ∙ ap (λ n. Some n) added.added.index_is in
     rw (p.1, p.2) (index_stops files file c.args.self.now c.args.src.now.seen c.args.is_whole c.args.input at now.link.rows.rows now.row c.in_err-read_names.field-0.0 none rows row walk.whole
     (c.in_err-read_names.ensures.fails file (c.in_ok-names.ensures.keeps.same_file ∙ at.seen_is) dropped fits walk.whole))
+
+pub returns-clause-names : goal.returns-clause-names
+returns-clause-names g c = λ files.
+    file_added files c.args.self.now c.read_names.new.self Archive c.args.input
+    (ap (λ (r : LinkRows). r.rows) c.in_ok-read_names.ensures.keeps.rows ∙ ap (λ (r : Resolver). r.link.rows.rows) c.mark_members.ensures.same ∙ c.in_ok-row.ensures.adds.added.rows)
+    (c.read_names.ensures.names ∙ ap (λ (r : Resolver). r.room.names) c.mark_members.ensures.same ∙ ap (λ (r : LinkRoom). r.names) c.add_row.ensures.room)

@@ -12,6 +12,7 @@ use Rattle.elf_resolve.specs.EndsAtRefusal.{NoneRefused}
 use Rattle.elf_resolve.specs.Resolved.{linking_of}
 use Rattle.elf_resolve.proofs.RefusalLaws.{limit_stops}
 use Rattle.elf_resolve.proofs.StopLaws.{leaves_as}
+use Rattle.elf_resolve.proofs.NamedRowLaws.{names_read}
 use Rattle.elf_resolve.proofs.resolver.Resolver.read_input.Goals as goal
 
 pub returns-clause-takes : goal.returns-clause-takes
@@ -39,3 +40,12 @@ pub returns-in_err-src-clause-leaves : goal.returns-in_err-src-clause-leaves
 returns-in_err-src-clause-leaves g c = λ all file planned known file_is is done none.
     let p = err_from_is_err_and c.from_residual.result c.from_residual.ensures.1 in
     rw (p.1, p.2) (limit_stops all ⊥ _ _ _ c.in_err-src.field-0.0 c.in_err-src.ensures.limit)
+
+pub returns-clause-names : goal.returns-clause-names
+returns-clause-names g c = λ all file planned known file_is is done.
+    let opens = c.in_ok-src.ensures.opens file known in
+    let planned_now = subst (λ k. IsPlanned all k c.args.index c.args.input) (sym c.open.ensures.file) planned in
+    let is_now = subst (λ r. IsLink all r) (sym c.open.ensures.same) is in
+    let done_now = subst (λ (r : Resolver). slice_get r.states.items c.args.index ≡ Some state.Done) (sym c.open.ensures.same) done in
+    names_read all c.args.self.now c.open.new.self c.take_file-taken.new.self c.close.new.self c.take_file-taken.result c.open.ensures.same c.close.ensures
+    (c.take_file-taken.ensures.names all file planned_now is_now opens.0 opens.1 file_is done_now)

@@ -3,6 +3,7 @@ use Rattle.std.specs.Vec.{with_items}
 use Rattle.std.proofs.lemmas.List.{with_items_is}
 use Rattle.elf_resolve.proofs.TakenMemberLaws.{on_ok, search_has, search_makes}
 use Rattle.elf_resolve.proofs.StopMemberLaws.{ok_leaves, search_ends_as}
+use Rattle.elf_resolve.proofs.NamedRowLaws.{archive_has, names_searched}
 use Rattle.elf_resolve.proofs.resolver.Resolver.search.Goals as goal
 
 pub returns-in-Ok-clause-searches : goal.returns-in-Ok-clause-searches
@@ -31,3 +32,9 @@ returns-in-Err-clause-leaves g c = λ files file is found file_is known none.
     let ends = search_ends_as files file c.args.self.now c.args.archive c.deref_mut.result.now new.link.rows.rows end.fault end.asked end.ended is found file_is c.deref_mut.ensures.value
     (λ has fits entries_fit. c.search_members-found.ensures.stops file known has fits entries_fit) in
     c.stopped.ensures.stops files file _ _ (rw c.in-Err.is at ends) file_is none
+
+pub returns-in-Ok-clause-names : goal.returns-in-Ok-clause-names
+returns-in-Ok-clause-names g c = λ files file is found file_is known.
+    let new = record c.args.self.now { link = c.search_members-found.new.link; room = c.search_members-found.new.room } in
+    names_searched files file c.args.archive c.args.self.now new file_is
+    (on_ok _ _ _ c.in-Ok.is (c.search_members-found.ensures.names file known (archive_has files file c.args.self.now c.args.archive is found file_is)))

@@ -7,6 +7,7 @@ use Rattle.elf_resolve.proofs.TakenMemberLaws.{again_makes}
 use Rattle.std.proofs.lemmas.Result.{err_from_is_err_and}
 use Rattle.elf_resolve.proofs.RefusalLaws.{limit_stops}
 use Rattle.elf_resolve.proofs.StopLaws.{again_leaves}
+use Rattle.elf_resolve.proofs.NamedRowLaws.{names_again}
 use Rattle.elf_resolve.proofs.resolver.Resolver.search_again.Goals as goal
 
 pub returns-clause-searches : goal.returns-clause-searches
@@ -27,3 +28,10 @@ pub returns-in_err-src-clause-leaves : goal.returns-in_err-src-clause-leaves
 returns-in_err-src-clause-leaves g c = λ all a file is at found file_is known none.
     let p = err_from_is_err_and c.from_residual.result c.from_residual.ensures.1 in
     rw (p.1, p.2) (limit_stops all ⊥ _ _ _ c.in_err-src.field-0.0 c.in_err-src.ensures.limit)
+
+pub returns-clause-names : goal.returns-clause-names
+returns-clause-names g c = λ all a file is at found file_is known.
+    let one : c.in-Some.archive ≡ a = some_of c.in-Some.archive a (c.in-Some.ensures ∙ ap (λ l. slice_get l c.args.archive) c.deref.ensures.value ∙ at) in
+    let bytes : g.F.InputFiles.file c.args.files.now c.in-Some.archive.input ≡ Some file = ap (λ (x : OpenedArchive). g.F.InputFiles.file c.args.files.now x.input) one ∙ known in
+    names_again all file c.args.self.now c.open.new.self c.search-taken.new.self c.close.new.self c.in-Some.archive a c.search-taken.result c.open.ensures.same c.close.ensures one
+    (λ is_there found_there file_there. c.search-taken.ensures.names all file is_there found_there file_there (c.in_ok-src.ensures.opens file bytes).1) is found file_is

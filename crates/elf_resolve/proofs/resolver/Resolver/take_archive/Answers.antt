@@ -10,6 +10,9 @@ use Rattle.elf_resolve.specs.EndsAtRefusal.{NoneRefused}
 use Rattle.elf_resolve.specs.declared.archives.OpenedArchive.{OpenedArchive}
 use Rattle.elf_resolve.proofs.RefusalLaws.{limit_stops}
 use Rattle.elf_resolve.proofs.StopLaws.{leaves_as, opened_leaves, searched_makes, whole_makes}
+use Rattle.elf_resolve.specs.declared.passes.Link.{Link}
+use Rattle.elf_resolve.specs.declared.room.LinkRoom.{LinkRoom}
+use Rattle.elf_resolve.proofs.NamedRowLaws.{rows_still}
 use Rattle.elf_resolve.proofs.resolver.Resolver.take_archive.Goals as goal
 
 pub returns-then-is_whole-clause-takes : goal.returns-then-is_whole-clause-takes
@@ -68,3 +71,23 @@ returns-clause-leaves g c = λ files file is at none.
     (ap (λ (l : Linking). l.rows) (searched_makes files file c.args.src.now.seen c.args.input old c.open_archive.new.self c.keep_archive.new.self archive is at_searched opened kept))
     (c.search.ensures.leaves files file found.0 found.1 found.2 (ap whole_file_of c.in_ok-archive.ensures.below ∙ at.below)
     (subst (λ l. NoneRefused files l.rows.rows) (sym kept.link) (opened_leaves files file old c.args.src.now.seen false c.args.input at_searched c.open_archive.new.self archive opened none)))
+
+pub returns-then-is_whole-clause-names : goal.returns-then-is_whole-clause-names
+returns-then-is_whole-clause-names g c = λ files file is at.
+    let opened = c.in_ok-archive.ensures.opens file at.seen_is is.marked in
+    let archive = c.in_ok-archive.archive in
+    let file_is = ap (λ (a : OpenedArchive). files.file a.input) opened.archive_is ∙ at.file_is in
+    on_ok_then _ _ c.take_whole.result (λ keep held. keep (c.in_ok-archive.ensures.names files held))
+    (c.take_whole.ensures.names files file file_is (ap whole_file_of c.in_ok-archive.ensures.below ∙ at.below) (opened_members file _ c.args.input c.args.self.now c.open_archive.new.self archive opened))
+
+pub returns-clause-names : goal.returns-clause-names
+returns-clause-names g c = λ files file is at.
+    let read = c.in_ok-archive.ensures.opens file at.seen_is is.marked in
+    let archive = c.in_ok-archive.archive in
+    let opened = subst (λ w. OpenedAs file w c.args.input c.args.self.now c.open_archive.new.self archive) c.if-is_whole.false read in
+    let at_searched = subst (λ w. IsArchiveAt files file c.args.self.now c.args.src.now.seen w c.args.input) c.if-is_whole.false at in
+    let kept = c.in_ok-keep_archive.ensures.keeps in
+    let found = search_found files file c.args.src.now.seen c.args.input c.args.self.now c.open_archive.new.self c.keep_archive.new.self archive is at_searched opened kept in
+    let still = rows_still files c.open_archive.new.self c.keep_archive.new.self (ap (λ (r : LinkRoom). r.names) c.keep_archive.ensures.names) (ap (λ (l : Link). l.rows.rows) kept.link) in
+    on_ok_then _ _ c.search.result (λ keep held. keep (still (c.in_ok-archive.ensures.names files held)))
+    (c.search.ensures.names files file found.0 found.1 found.2 (ap whole_file_of c.in_ok-archive.ensures.below ∙ at.below))

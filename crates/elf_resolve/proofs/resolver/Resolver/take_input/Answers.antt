@@ -1,3 +1,6 @@
+use Rattle.std.proofs.Common.{ap}
+use Rattle.elf_resolve.specs.declared.resolver.Resolver.{Resolver}
+use Rattle.elf_resolve.proofs.NamedRowLaws.{rows_still}
 use Rattle.elf_resolve.proofs.TakenMemberLaws.{on_ok_then}
 use Rattle.elf_resolve.proofs.TakenLaws.{reached_done, reached_link, reached_took}
 use Rattle.std.proofs.Common.{refl, sym, ap, subst}
@@ -23,3 +26,11 @@ returns-clause-leaves g c = λ all planned is is_new none.
     leaves_as all _ c.take_kind.new.self c.take_kind.new.self _ _ c.take_kind.result refl refl (ap (λ (r : Resolver). (input_taken (linking_of r) c.args.index (files_as_inputs all c.args.index)).rows) same)
     (c.take_kind.ensures.leaves all planned (reached_link all c.args.self.now marked c.args.index is is_new same c.set_state.ensures.sets) (reached_done c.args.self.now marked c.args.index is_new c.set_state.ensures.sets)
     (subst (λ (r : Resolver). NoneRefused all r.link.rows.rows) (sym same) none))
+
+pub returns-clause-names : goal.returns-clause-names
+returns-clause-names g c = λ all planned is is_new.
+    let marked = c.set_state.new.self in
+    let still = rows_still all c.args.self.now marked (ap (λ (r : Resolver). r.room.names) c.set_state.ensures.same) (ap (λ (r : Resolver). r.link.rows.rows) c.set_state.ensures.same) in
+    on_ok_then _ _ c.take_kind.result (λ keep held. keep (still held))
+    (c.take_kind.ensures.names all planned (reached_link all c.args.self.now marked c.args.index is is_new c.set_state.ensures.same c.set_state.ensures.sets)
+    (reached_done c.args.self.now marked c.args.index is_new c.set_state.ensures.sets))

@@ -57,3 +57,7 @@ returns-in_err-visit-in-Input-clause-leaves g c = λ headers whole static at non
     let here : slice_get c.args.plan.now.steps.items c.args.place ≡ Some (step.Input c.in-Input.input) = cc (c.element_at.ensures, c.deref.ensures.value, c.in-Some.is, c.in-Input.is) in
     let leaves = c.in_err-visit-in-Input.ensures.leaves headers static (row_link_still all old None at.is_link) none in
     rw (p.1, p.2) (stops_within all _ _ _ _ whole.rows _ c.in_err-visit-in-Input.field-0.0 (λ bad. bad) (input_begins all c.args.plan.now whole old c.args.place c.in-Input.input static.distinct here at) leaves)
+
+pub returns-in_ok-visit-in-Input-clause-names : goal.returns-in_ok-visit-in-Input-clause-names
+returns-in_ok-visit-in-Input-clause-names g c = λ headers static is.
+    c.in_ok-visit-in-Input.ensures.names headers static (row_link_still (planned_files (g.F.InputFiles.file c.args.files.now) c.args.plan.now headers) c.args.self.now None is)

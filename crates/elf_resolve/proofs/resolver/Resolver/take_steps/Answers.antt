@@ -1,6 +1,7 @@
 use Rattle.std.proofs.Common.{◌≤◌, length, refl, sym, subst, ◌∙◌, arith}
+use Rattle.elf_resolve.specs.NamedRows.{KeepsRowNames}
 use Rattle.elf_resolve.specs.Plans.{IsStaticPlan, planned_files}
-use Rattle.elf_resolve.specs.ResolvedInputs.{IsAtStep}
+use Rattle.elf_resolve.specs.ResolvedInputs.{IsAtStep, IsLink}
 use Rattle.elf_resolve.proofs.StepLaws.{steps_end}
 use Rattle.std.proofs.lemmas.Result.{err_from_is_err_and}
 use Rattle.elf_resolve.specs.EndsAtRefusal.{HasBadScript, NoneRefused, StopsLink}
@@ -27,6 +28,14 @@ turns-preserved g c = (
       let before_now = subst (λ k. IsAtStep (planned_files k plan headers) plan whole c.turns.self c.turns.place) (sym same) (c.turns.invariant.1 headers whole static at) in
       let none_now = subst (λ k. NoneRefused (planned_files k plan headers) c.turns.self.link.rows.rows) (sym same) (c.turns.invariant.2 headers whole static at none) in
       subst (λ k. NoneRefused (planned_files k plan headers) c.take_step.new.self.link.rows.rows) same (c.in_ok-after.ensures.leaves headers whole static_now before_now none_now),
+  c.take_step.ensures.text ∙ c.turns.invariant.3,
+  λ headers whole static at held.
+      let plan = c.args.plan.now in
+      let before = c.turns.invariant.1 headers whole static at in
+      let static_now = subst (λ k. IsStaticPlan k plan) (sym c.turns.invariant.0) static in
+      let is_now = subst (λ k. IsLink (planned_files k plan headers) c.turns.self) (sym c.turns.invariant.0) before.is_link in
+      let keeps = subst (λ k. KeepsRowNames (planned_files k plan headers) c.turns.self c.take_step.new.self) c.turns.invariant.0 (c.in_ok-after.ensures.names headers static_now is_now) in
+      keeps (c.turns.invariant.4 headers whole static at held),
 )
 
 pub returns-then-place-count-clause-leaves : goal.returns-then-place-count-clause-leaves

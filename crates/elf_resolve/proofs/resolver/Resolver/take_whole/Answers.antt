@@ -32,6 +32,9 @@ loop-number-preserved g c = (
       let at = slice_get-get_or ms c.loop-number.number no_member below in
       c.in_ok-take_if_file.ensures.leaves files file (get_or ms c.loop-number.number no_member) (ap whole_file_of c.loop-number.invariant.0 ∙ known) (still_has file _ _ _ _ before.0 has) at (headers ∙ sym before.0.headers) file_is
       (c.loop-number.invariant.2 files file known has headers file_is none),
+  λ files file file_is known has held.
+      let before = c.loop-number.invariant.1 file known has in
+      c.in_ok-take_if_file.ensures.names files file file_is (ap whole_file_of c.loop-number.invariant.0 ∙ known) (still_has file _ _ _ _ before.0 has) (c.loop-number.invariant.3 files file file_is known has held),
 )
 
 pub returns-clause-takes : goal.returns-clause-takes
