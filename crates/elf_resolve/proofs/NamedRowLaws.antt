@@ -10,7 +10,7 @@ use Rattle.elf_resolve.specs.MemberNames.{RowsAscend, name_of_row_in}
 use Rattle.elf_resolve.specs.NamedRows.{HasNames, KeepsRowNames, named_in}
 use Rattle.elf_resolve.specs.OpenedArchives.{HasMembers, archive_of_input}
 use Rattle.elf_resolve.specs.ResolvedInputs.{IsLink}
-use Rattle.elf_resolve.specs.RowNames.{AddsName, KeepsNames, member_names, names_of_rows}
+use Rattle.elf_resolve.specs.RowNames.{AddsName, KeepsMemberNames, member_names, names_of_rows}
 use Rattle.elf_resolve.specs.RowTables.{AddedRow}
 use Rattle.elf_resolve.specs.StaticLinks.{AreRowsNamed, IsNameOfRow}
 use Rattle.elf_resolve.specs.declared.archives.OpenedArchive.{OpenedArchive}
@@ -39,7 +39,7 @@ member_added files file archive member row one old new file_is one_is added_one 
 
 -- an archive was searched
 pub names_searched : (files : LinkFiles) (file : List ℕ) (archive : OpenedArchive) (old new : Resolver) → files.file archive.input ≡ Some file
-    → KeepsNames archive.input (member_names (Some file)) old.link.rows.rows new.link.rows.rows old.room.names new.room.names → KeepsRowNames files old new
+    → KeepsMemberNames archive.input (member_names (Some file)) old.link.rows.rows new.link.rows.rows old.room.names new.room.names → KeepsRowNames files old new
 names_searched files file archive old new file_is keeps held = keeps.keeps (named_in files) (ap member_names file_is) held
 
 -- the members of an archive that is opened

@@ -10,7 +10,7 @@ use Rattle.elf_model.specs.LinkArchives.{LINK_NAME_BYTES, link_members, name_tab
 use Rattle.elf_model.specs.Names.{DisplayedName}
 use Rattle.elf_model.specs.declared.link_states.LinkRow.{LinkRow}
 use Rattle.elf_resolve.specs.MemberNames.{NamedMember, RowName, name_of_row_in, row_of_name}
-use Rattle.elf_resolve.specs.RowNames.{AddsName, HeldNames, KeepsNames, member_names, names_of_row, names_of_rows}
+use Rattle.elf_resolve.specs.RowNames.{AddsName, HeldNames, KeepsMemberNames, member_names, names_of_row, names_of_rows}
 use Rattle.elf_resolve.proofs.MemberTaking.{member_of_index}
 
 -- ONE ROW MORE
@@ -43,10 +43,10 @@ member_named named rows now row index member held after added at is_member name 
     ∙ sym (names_push named 0 rows row) ∙ ap (λ l. names_of_rows named 0 l) (sym added)
 
 -- NAMES ARE KEPT
-pub keeps_itself : (input : ℕ) (mine : ℕ → DisplayedName) (rows : List LinkRow) (held : List RowName) → KeepsNames input mine rows rows held held
+pub keeps_itself : (input : ℕ) (mine : ℕ → DisplayedName) (rows : List LinkRow) (held : List RowName) → KeepsMemberNames input mine rows rows held held
 keeps_itself input mine rows held = record { keeps = λ named same is. is }
 
-pub keeps_then : (input : ℕ) (mine then_mine : ℕ → DisplayedName) (a b c : List LinkRow) (x y z : List RowName) → then_mine ≡ mine → KeepsNames input mine a b x y → KeepsNames input then_mine b c y z → KeepsNames input mine a c x z
+pub keeps_then : (input : ℕ) (mine then_mine : ℕ → DisplayedName) (a b c : List LinkRow) (x y z : List RowName) → then_mine ≡ mine → KeepsMemberNames input mine a b x y → KeepsMemberNames input then_mine b c y z → KeepsMemberNames input mine a c x z
 keeps_then input mine then_mine a b c x y z same first second =
     record { keeps = λ named is held. second.keeps named (is ∙ sym same) (first.keeps named is held) }
 
@@ -54,14 +54,14 @@ pub held_first : (input : ℕ) (known : Type 0) (mine : ℕ → DisplayedName) (
 held_first input known mine rows held = record { same = refl; keeps = λ k. keeps_itself input mine rows held }
 
 pub held_then : (input : ℕ) (known : Type 0) (mine then_mine after : ℕ → DisplayedName) (a b c : List LinkRow) (x y z : List RowName) (still : Type 0) → (known → still) → HeldNames input known mine then_mine a b x y → after ≡ then_mine
-    → (still → KeepsNames input then_mine b c y z) → HeldNames input known mine after a c x z
+    → (still → KeepsMemberNames input then_mine b c y z) → HeldNames input known mine after a c x z
 held_then input known mine then_mine after a b c x y z still known_still first same second = record {
   same = same ∙ first.same;
   keeps = λ k. keeps_then input mine then_mine a b c x y z first.same (first.keeps k) (second (known_still k));
 }
 
 pub keeps_member : (mine : ℕ → DisplayedName) (rows now : List LinkRow) (row : LinkRow) (index input member : ℕ) (held after : List RowName) → now ≡ rows ++ row ∷ [] → index ≡ length rows → row.input ≡ input → row.member ≡ Some member
-    → AddsName held after index (mine member) → KeepsNames input mine rows now held after
+    → AddsName held after index (mine member) → KeepsMemberNames input mine rows now held after
 keeps_member mine rows now row index input member held after added at input_is is_member name = record {
   keeps = λ named is. member_named named rows now row index member held after added at is_member
       (name ∙ ap (λ f. held ++ (record { row = index; name = f member }) ∷ []) (sym (ap named input_is ∙ is)));

@@ -24,10 +24,10 @@ names_of_rows named index [] = []
 names_of_rows named index (row ∷ rows) = names_of_row named index row.input row.member ++ names_of_rows named (index + 1) rows
 
 -- the names that were held were those of the rows, and they still are, with members of one input added
-pub record KeepsNames (input : ℕ) (mine : ℕ → DisplayedName) (old new : List LinkRow) (held now : List RowName) : Type 0 where
+pub record KeepsMemberNames (input : ℕ) (mine : ℕ → DisplayedName) (old new : List LinkRow) (held now : List RowName) : Type 0 where
   pub keeps : (named : ℕ → ℕ → DisplayedName) → named input ≡ mine → held ≡ names_of_rows named 0 old → now ≡ names_of_rows named 0 new
 
 -- members are named as they were; and if they were known, the names held are still those of the rows
 pub record HeldNames (input : ℕ) (known : Type 0) (mine after : ℕ → DisplayedName) (old new : List LinkRow) (held now : List RowName) : Type 0 where
   pub same : after ≡ mine
-  pub keeps : known → KeepsNames input mine old new held now
+  pub keeps : known → KeepsMemberNames input mine old new held now

@@ -19,13 +19,10 @@ ghost use Rattle.elf_resolve.specs.Taken.{IsLinkFault, header_of};
 ghost use Rattle.elf_resolve.specs.NamedRows.{KeepsRowNames};
 
 use crate::archive_index::read_index;
-use crate::archive_searches::{
-    MemberPlace, add_marks, element_at, member_row, range_of, search_members, take_member,
-};
+use crate::archive_searches::{add_marks, element_at, member_row, search_members};
 use crate::archives::OpenedArchive;
 use crate::link_faults::{LinkFault, refused};
 use crate::link_files::InputFiles;
-use crate::member_files::is_file;
 use crate::resolver::{InputState, Resolver};
 use crate::table::LinkStop;
 use elf_model::{LinkCause, LinkRowKind};
@@ -298,126 +295,5 @@ impl Resolver<'_> {
         };
         self.row = self.link.rows.add(member_row(archive, member));
         Err(fault)
-    }
-
-    /// Takes all members of an archive that are files, in order.
-    ///
-    /// # Errors
-    /// The first fault of a member.
-    fn take_whole<S: Source>(
-        &mut self,
-        src: &mut Counted<RangeSource<S>>,
-        archive: OpenedArchive,
-    ) -> Result<(), LinkFault>
-        ensures takes { (file : List ℕ) → file_of_range src.old.seen ≡ Some file →
-            HasMembers file self.old.tables.members.items archive →
-            OnOk result (TookMembers self.old self.new (members_taken archive.input archive.row
-            (linking_of self.old)
-            (whole_members file 0 (link_members file).members self.old.room.headers))) }
-        ensures leaves { (files : LinkFiles) (file : List ℕ) →
-            file_of_range src.old.seen ≡ Some file →
-            HasMembers file self.old.tables.members.items archive →
-            files.headers ≡ self.old.room.headers → files.file archive.input ≡ Some file →
-            NoneRefused files self.old.link.rows.rows →
-            LeavesRows files ⊥ self.new (members_taken archive.input archive.row
-            (linking_of self.old)
-            (whole_members file 0 (link_members file).members self.old.room.headers)).rows
-            result }
-        ensures names { (files : LinkFiles) (file : List ℕ) →
-            files.file archive.input ≡ Some file → file_of_range src.old.seen ≡ Some file →
-            HasMembers file self.old.tables.members.items archive →
-            OnOk result (KeepsRowNames files self.old self.new) }
-    {
-        let count = range_of(&self.tables.members, archive.members).len();
-        let Ok(count) = u32::try_from(count) else {
-            return refused(0, LinkCause::TooManyRows);
-        };
-        for number in 0..count {
-            self.take_if_file(src, archive, number)?;
-        }
-        Ok(())
-    }
-
-    /// Takes a member of an archive, if it is a file.
-    ///
-    /// # Errors
-    /// The first fault of the member.
-    fn take_if_file<S: Source>(
-        &mut self,
-        src: &mut Counted<RangeSource<S>>,
-        archive: OpenedArchive,
-        member: u32,
-    ) -> Result<(), LinkFault>
-        ensures below { src.new.seen.whole ≡ src.old.seen.whole }
-        ensures takes { (file : List ℕ) (m : LinkMember) → file_of_range src.old.seen ≡ Some file →
-            HasMembers file self.old.tables.members.items archive →
-            slice_get (link_members file).members member ≡ Some m →
-            OnOk result (TookMembers self.old self.new (members_taken archive.input archive.row
-            (linking_of self.old) (whole_members file member (m ∷ []) self.old.room.headers))) }
-        ensures leaves { (files : LinkFiles) (file : List ℕ) (m : LinkMember) →
-            file_of_range src.old.seen ≡ Some file →
-            HasMembers file self.old.tables.members.items archive →
-            slice_get (link_members file).members member ≡ Some m →
-            files.headers ≡ self.old.room.headers → files.file archive.input ≡ Some file →
-            NoneRefused files self.old.link.rows.rows →
-            LeavesRows files ⊥ self.new (members_taken archive.input archive.row
-            (linking_of self.old) (whole_members file member (m ∷ []) self.old.room.headers)).rows
-            result }
-        ensures names { (files : LinkFiles) (file : List ℕ) →
-            files.file archive.input ≡ Some file → file_of_range src.old.seen ≡ Some file →
-            HasMembers file self.old.tables.members.items archive →
-            OnOk result (KeepsRowNames files self.old self.new) }
-    {
-        let members = range_of(&self.tables.members, archive.members);
-        let is_taken = is_file(src, members, member)?;
-        if !is_taken {
-            return Ok(());
-        }
-        self.take_row(src, archive, member)
-    }
-
-    /// Takes a member of an archive, which is a file.
-    ///
-    /// # Errors
-    /// The first fault of the member; there is no room for its row.
-    fn take_row<S: Source>(
-        &mut self,
-        src: &mut Counted<RangeSource<S>>,
-        archive: OpenedArchive,
-        member: u32,
-    ) -> Result<(), LinkFault>
-        ensures below { src.new.seen.whole ≡ src.old.seen.whole }
-        ensures takes { (file : List ℕ) (m : LinkMember) → file_of_range src.old.seen ≡ Some file →
-            HasMembers file self.old.tables.members.items archive →
-            slice_get (link_members file).members member ≡ Some m →
-            OnOk result (TookMembers self.old self.new (with_object (linking_of self.old)
-            (whole_row archive.input archive.row member)
-            (or_empty (object_of (bytes_in file m.extent) self.old.room.headers)))) }
-        ensures leaves { (files : LinkFiles) (file : List ℕ) (m : LinkMember) →
-            file_of_range src.old.seen ≡ Some file →
-            HasMembers file self.old.tables.members.items archive →
-            slice_get (link_members file).members member ≡ Some m →
-            files.headers ≡ self.old.room.headers → files.file archive.input ≡ Some file →
-            NoneRefused files self.old.link.rows.rows →
-            LeavesRows files ⊥ self.new (with_object (linking_of self.old)
-            (whole_row archive.input archive.row member)
-            (or_empty (object_of (bytes_in file m.extent) self.old.room.headers))).rows result }
-        ensures names { (files : LinkFiles) (file : List ℕ) →
-            files.file archive.input ≡ Some file → file_of_range src.old.seen ≡ Some file →
-            HasMembers file self.old.tables.members.items archive →
-            OnOk result (KeepsRowNames files self.old self.new) }
-    {
-        let row = self.link.rows.add(member_row(archive, member));
-        self.row = row;
-        let Some(row) = row else {
-            return refused(0, LinkCause::TooManyRows);
-        };
-        let place = MemberPlace {
-            archive,
-            member,
-            row,
-        };
-        let keys = &mut self.link.keys;
-        take_member(src, &mut self.room, &self.tables, place, keys)
     }
 }

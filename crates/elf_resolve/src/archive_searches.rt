@@ -15,7 +15,7 @@ ghost use Rattle.elf_resolve.specs.Resolved.{elements_in, linking_of, open_archi
 ghost use Rattle.elf_resolve.specs.ResolvedInputs.{EntersIndex, IsArchiveAt, IsLink, KeepsArchives, KeptArchive, OpenedAs, TookInput, TookMembers};
 ghost use Rattle.elf_resolve.specs.SearchStops.{EndsSearch};
 ghost use Rattle.elf_resolve.specs.Taken.{IsLinkFault, header_of};
-ghost use Rattle.elf_resolve.specs.RowNames.{AddsName, KeepsNames, member_names};
+ghost use Rattle.elf_resolve.specs.RowNames.{AddsName, KeepsMemberNames, member_names};
 
 use crate::archives::{ArchiveTables, OpenedArchive};
 use crate::link_faults::{LinkFault, refused};
@@ -132,7 +132,7 @@ pub(crate) fn search_members<S: Source>(
         result.fault result.asked result.ended }
     ensures names { (file : List ℕ) → file_of_range src.old.seen ≡ Some file →
         HasMembers file tables.now.members.items archive → OnOk result.ended
-        (KeepsNames archive.input (member_names (Some file)) link.old.rows.rows
+        (KeepsMemberNames archive.input (member_names (Some file)) link.old.rows.rows
         link.new.rows.rows room.old.names room.new.names) }
 {
     let members = range_of(&tables.members, archive.members);

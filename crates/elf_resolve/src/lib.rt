@@ -54,6 +54,7 @@ mod string_buffer;
 mod symbols;
 mod table;
 mod version_names;
+mod whole_archives;
 
 pub use examples::{small_files, small_links};
 pub use lines::{LinkLines, show_link};

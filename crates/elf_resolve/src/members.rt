@@ -290,8 +290,7 @@ fn find_definition<S: Source>(
     Ok(is_defined_in(tables, &room.tables.strings, entry, keys))
 }
 
-/// Returns whether the first symbol of an entry's name among those of an object is a definition, not
-/// weak and no function.
+/// Returns whether an entry's first symbol in an object is a definition, not weak and no function.
 fn is_defined_in(
     tables: ObjectTables,
     strings: &StringBuffer,
@@ -307,8 +306,7 @@ fn is_defined_in(
     }
 }
 
-/// Returns whether the first symbol of an entry's name among those of a table is a definition, not
-/// weak and no function.
+/// Returns whether an entry's first symbol in a table is a definition, not weak and no function.
 fn is_first_definition(
     symbols: SymbolRows,
     strings: &StringBuffer,

@@ -7,7 +7,7 @@ ghost use Rattle.elf_model.specs.Names.{DisplayedName};
 ghost use Rattle.elf_resolve.specs.MemberNames.{RowName};
 ghost use Rattle.elf_resolve.specs.Passing.{Moved, TookObject, searched_archive, pass_of};
 ghost use Rattle.elf_resolve.specs.SearchStops.{AddsMembers};
-ghost use Rattle.elf_resolve.specs.RowNames.{AddsName, KeepsNames};
+ghost use Rattle.elf_resolve.specs.RowNames.{AddsName, KeepsMemberNames};
 
 use crate::rows::RowTable;
 use crate::table::{KeyTable, LinkStop};
@@ -183,7 +183,7 @@ pub fn visit_entry<'a, M: ArchiveObjects>(
         (pass_of link.old taken.old) entry).rows result }
     ensures same_refusal { M.refusal members.new ≡ M.refusal members.old }
     ensures names { M.known members.old → OnOk result
-        (KeepsNames archive.input (M.named members.old) link.old.rows.rows link.new.rows.rows
+        (KeepsMemberNames archive.input (M.named members.old) link.old.rows.rows link.new.rows.rows
         (M.names members.old) (M.names members.new)) }
     ensures named { M.named members.new ≡ M.named members.old }
     ensures same { M.members members.new ≡ M.members members.old }
@@ -228,7 +228,7 @@ pub fn pass_index<'a, M: ArchiveObjects>(
         (pass_of link.old taken.old) entries.now).rows result }
     ensures same_refusal { M.refusal members.new ≡ M.refusal members.old }
     ensures names { M.known members.old → OnOk result
-        (KeepsNames archive.input (M.named members.old) link.old.rows.rows link.new.rows.rows
+        (KeepsMemberNames archive.input (M.named members.old) link.old.rows.rows link.new.rows.rows
         (M.names members.old) (M.names members.new)) }
     ensures named { M.named members.new ≡ M.named members.old }
     ensures same { M.members members.new ≡ M.members members.old }
@@ -264,7 +264,7 @@ pub fn search_archive<'a, M: ArchiveObjects>(
         (pass_of link.old taken.old)).rows result }
     ensures same_refusal { M.refusal members.new ≡ M.refusal members.old }
     ensures names { M.known members.old → OnOk result
-        (KeepsNames archive.input (M.named members.old) link.old.rows.rows link.new.rows.rows
+        (KeepsMemberNames archive.input (M.named members.old) link.old.rows.rows link.new.rows.rows
         (M.names members.old) (M.names members.new)) }
     ensures named { M.named members.new ≡ M.named members.old }
     ensures same { M.members members.new ≡ M.members members.old }
