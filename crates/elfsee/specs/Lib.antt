@@ -1,6 +1,5 @@
 pub mod Ends
 pub mod Explaining
 pub mod Layouts
-pub mod LinkTexts
 pub mod Naming
 pub mod Needs

@@ -1,7 +1,6 @@
 //! The inputs of a link, and where they are: the files that the arguments of a linker name, and
 //! those of the scripts among them.
-ghost use Rattle.std.specs.Prelude.{None, Some};
-ghost use Rattle.elfsee.specs.LinkTexts.{path_of_input};
+ghost use Rattle.std.specs.Prelude.{None};
 
 use crate::input_kinds::{FoundFile, look_into, open_regular};
 use crate::link_texts::{InputTexts, TextPlace};
@@ -356,7 +355,7 @@ where
 
     ghost file = { λ s input. None };
 
-    ghost text = { λ s input. Some (path_of_input s.texts.bytes.items s.paths.items input) };
+    ghost text = { λ s input. None };
 
     fn open(&mut self, input: u32) -> Result<Self::InputSource, OpenFault> {
         match str::from_utf8(self.path(input)) {
