@@ -34,6 +34,7 @@ pub mod IndexPasses
 pub mod IndexParts
 pub mod MemberTaking
 pub mod MemberNameLaws
+pub mod RowNameLaws
 pub mod ObjectSymbolLaws
 pub mod ObjectLaws
 pub mod ObjectNameLaws
@@ -52,6 +53,7 @@ pub mod ListRoomLaws
 pub mod ResolvedLaws
 pub mod TakenMemberLaws
 pub mod TakenLaws
+pub mod NamedRowLaws
 pub mod StepLaws
 pub mod OwnKeyLaws
 pub mod OwnLinkLaws

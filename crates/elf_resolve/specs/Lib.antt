@@ -11,6 +11,7 @@ pub mod LinkMembers
 pub mod MemberExtents
 pub mod MemberWalks
 pub mod MemberNames
+pub mod RowNames
 pub mod ArchiveIndexes
 pub mod Ranges
 pub mod Lines
@@ -42,6 +43,7 @@ pub mod ResolvedInputs
 pub mod KeptLimits
 pub mod ListRooms
 pub mod OwnLinks
+pub mod NamedRows
 pub mod LibrarySymbols
 pub mod VersionTexts
 pub mod KeyMarks

@@ -160,6 +160,7 @@ pub record IsFresh (link : Resolver) : Type 0 where
   pub groups : link.groups.items ≡ []
   pub states : (input : ℕ) → is_new_input link.states.items input ≡ true
   pub lists : HasListRoom link
+  pub names : link.room.names ≡ []
 
 -- names were asked for by arguments
 pub record AskedNames (old new : Resolver) (names : List (List ℕ)) : Type 0 where

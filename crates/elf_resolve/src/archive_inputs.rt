@@ -12,6 +12,7 @@ ghost use Rattle.elf_resolve.specs.Passing.{TookObject, pass_of};
 ghost use Rattle.elf_resolve.specs.Ranges.{IsRangeOf};
 ghost use Rattle.elf_resolve.specs.Resolved.{elements_in, linking_of, open_archive};
 ghost use Rattle.elf_resolve.specs.ResolvedInputs.{EntersIndex, IsArchiveAt, IsLink, KeepsArchives, KeptArchive, OpenedAs, TookInput, TookMembers};
+ghost use Rattle.elf_resolve.specs.NamedRows.{KeepsRowNames};
 ghost use Rattle.elf_resolve.specs.Taken.{header_of};
 
 use crate::archive_index::read_index;
@@ -38,10 +39,13 @@ impl Resolver<'_> {
         is_whole: bool,
         input: u32,
     ) -> Result<(), LinkFault>
-        ensures { (files : LinkFiles) (file : List ℕ) → IsLink files self.old →
+        ensures takes { (files : LinkFiles) (file : List ℕ) → IsLink files self.old →
             IsArchiveAt files file self.old src.old.seen is_whole input →
             OnOk result (TookInput files self.old self.new input
             (input_taken (linking_of self.old) input (files_as_inputs files input))) }
+        ensures names { (files : LinkFiles) (file : List ℕ) → IsLink files self.old →
+            IsArchiveAt files file self.old src.old.seen is_whole input →
+            OnOk result (KeepsRowNames files self.old self.new) }
     {
         let archive = self.open_archive(src, is_whole, input)?;
         if is_whole {
@@ -66,6 +70,7 @@ impl Resolver<'_> {
         ensures opens { (file : List ℕ) → src.old.seen.file ≡ Some file →
             length self.old.taken.items ≡ length self.old.tables.members.items →
             IfOk result (OpenedAs file is_whole input self.old self.new) }
+        ensures names { (files : LinkFiles) → OnOk result (KeepsRowNames files self.old self.new) }
     {
         let row = self.add_row(LinkRowKind::Archive, input)?;
         let first = self.tables.members.len();
@@ -108,6 +113,7 @@ impl Resolver<'_> {
     ) -> Result<(), LinkFault>
         ensures below { src.new.seen.whole ≡ src.old.seen.whole }
         ensures keeps { KeepsArchives self.old self.new }
+        ensures names { self.new.room.names ≡ self.old.room.names }
         ensures enters { (file : List ℕ) → src.old.seen.file ≡ Some file →
             drop first self.old.tables.members.items ≡ map header_of (link_members file).members →
             first ≤ length self.old.tables.members.items → members_refusal file ≡ None →
@@ -126,7 +132,8 @@ impl Resolver<'_> {
     /// # Errors
     /// There is no room for it.
     fn keep_archive(&mut self, archive: OpenedArchive) -> Result<(), LinkFault>
-        ensures { OnOk result (KeptArchive self.old self.new archive) }
+        ensures keeps { OnOk result (KeptArchive self.old self.new archive) }
+        ensures names { self.new.room ≡ self.old.room }
     {
         let index = self.tables.archives.len();
         self.set_state(archive.input, InputState::Archive(index));
@@ -154,6 +161,13 @@ impl Resolver<'_> {
             OnOk result (TookMembers self.old self.new (archive_again (linking_of self.old)
             (open_archive self.old.tables.entries.items self.old.taken.items a)
             (members_as_objects file (link_members file).members all.headers))) }
+        ensures text { F.text files.new ≡ F.text files.old }
+        ensures names { (all : LinkFiles) (a : OpenedArchive) (file : List ℕ) →
+            IsLink all self.old →
+            slice_get self.old.tables.archives.items archive ≡ Some a →
+            archive_of_input self.old.tables.archives.items a.input ≡ Some a →
+            all.file a.input ≡ Some file → F.file files.old a.input ≡ Some file →
+            OnOk result (KeepsRowNames all self.old self.new) }
     {
         let Some(archive) = element_at(&self.tables.archives, archive) else {
             return Ok(());
@@ -173,12 +187,16 @@ impl Resolver<'_> {
         src: &mut Counted<RangeSource<S>>,
         archive: OpenedArchive,
     ) -> Result<(), LinkFault>
-        ensures { (files : LinkFiles) (file : List ℕ) → IsLink files self.old →
+        ensures searches { (files : LinkFiles) (file : List ℕ) → IsLink files self.old →
             archive_of_input self.old.tables.archives.items archive.input ≡ Some archive →
             files.file archive.input ≡ Some file → file_of_range src.old.seen ≡ Some file →
             OnOk result (TookMembers self.old self.new (archive_again (linking_of self.old)
             (open_archive self.old.tables.entries.items self.old.taken.items archive)
             (members_as_objects file (link_members file).members files.headers))) }
+        ensures names { (files : LinkFiles) (file : List ℕ) → IsLink files self.old →
+            archive_of_input self.old.tables.archives.items archive.input ≡ Some archive →
+            files.file archive.input ≡ Some file → file_of_range src.old.seen ≡ Some file →
+            OnOk result (KeepsRowNames files self.old self.new) }
     {
         let found = search_members(
             &mut self.link,
@@ -232,11 +250,15 @@ impl Resolver<'_> {
         src: &mut Counted<RangeSource<S>>,
         archive: OpenedArchive,
     ) -> Result<(), LinkFault>
-        ensures { (file : List ℕ) → file_of_range src.old.seen ≡ Some file →
+        ensures takes { (file : List ℕ) → file_of_range src.old.seen ≡ Some file →
             HasMembers file self.old.tables.members.items archive →
             OnOk result (TookMembers self.old self.new (members_taken archive.input archive.row
             (linking_of self.old)
             (whole_members file 0 (link_members file).members self.old.room.headers))) }
+        ensures names { (files : LinkFiles) (file : List ℕ) →
+            files.file archive.input ≡ Some file → file_of_range src.old.seen ≡ Some file →
+            HasMembers file self.old.tables.members.items archive →
+            OnOk result (KeepsRowNames files self.old self.new) }
     {
         let count = range_of(&self.tables.members, archive.members).len();
         let Ok(count) = u32::try_from(count) else {
@@ -264,6 +286,10 @@ impl Resolver<'_> {
             slice_get (link_members file).members member ≡ Some m →
             OnOk result (TookMembers self.old self.new (members_taken archive.input archive.row
             (linking_of self.old) (whole_members file member (m ∷ []) self.old.room.headers))) }
+        ensures names { (files : LinkFiles) (file : List ℕ) →
+            files.file archive.input ≡ Some file → file_of_range src.old.seen ≡ Some file →
+            HasMembers file self.old.tables.members.items archive →
+            OnOk result (KeepsRowNames files self.old self.new) }
     {
         let members = range_of(&self.tables.members, archive.members);
         let is_taken = is_file(src, members, member)?;
@@ -290,6 +316,10 @@ impl Resolver<'_> {
             OnOk result (TookMembers self.old self.new (with_object (linking_of self.old)
             (whole_row archive.input archive.row member)
             (or_empty (object_of (bytes_in file m.extent) self.old.room.headers)))) }
+        ensures names { (files : LinkFiles) (file : List ℕ) →
+            files.file archive.input ≡ Some file → file_of_range src.old.seen ≡ Some file →
+            HasMembers file self.old.tables.members.items archive →
+            OnOk result (KeepsRowNames files self.old self.new) }
     {
         let row = self.link.rows.add(member_row(archive, member));
         self.row = row;

@@ -13,6 +13,7 @@ ghost use Rattle.elf_resolve.specs.Passing.{TookObject, pass_of};
 ghost use Rattle.elf_resolve.specs.Ranges.{IsRangeOf};
 ghost use Rattle.elf_resolve.specs.Resolved.{elements_in, linking_of, open_archive};
 ghost use Rattle.elf_resolve.specs.ResolvedInputs.{EntersIndex, IsArchiveAt, IsLink, KeepsArchives, KeptArchive, OpenedAs, TookInput, TookMembers};
+ghost use Rattle.elf_resolve.specs.RowNames.{AddsName, KeepsMemberNames, member_names};
 ghost use Rattle.elf_resolve.specs.Taken.{header_of};
 
 use crate::archives::{ArchiveTables, OpenedArchive};
@@ -65,6 +66,9 @@ pub(crate) fn take_member<S: Source>(
         OnOk result (TookObject
         (or_empty (object_of (member_bytes file (link_members file).members place.member)
         room.old.headers)) keys.old keys.new place.row) }
+    ensures names { (file : List ℕ) → file_of_range src.old.seen ≡ Some file →
+        HasMembers file tables.now.members.items place.archive → OnOk result (AddsName
+        room.old.names room.new.names place.row (member_names (Some file) place.member)) }
 {
     let members = range_of(&tables.members, place.archive.members);
     let mut objects = MembersOfArchive {
@@ -111,6 +115,10 @@ pub(crate) fn search_members<S: Source>(
     ensures limits { (file : List ℕ) → file_of_range src.old.seen ≡ Some file →
         HasMembers file tables.now.members.items archive →
         OnOk result.ended (KeepsLimits link.old.keys link.new.keys) }
+    ensures names { (file : List ℕ) → file_of_range src.old.seen ≡ Some file →
+        HasMembers file tables.now.members.items archive → OnOk result.ended
+        (KeepsMemberNames archive.input (member_names (Some file)) link.old.rows.rows
+        link.new.rows.rows room.old.names room.new.names) }
 {
     let members = range_of(&tables.members, archive.members);
     let entries = range_of(&tables.entries, archive.entries);

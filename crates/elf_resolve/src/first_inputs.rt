@@ -9,6 +9,7 @@ ghost use Rattle.elf_resolve.specs.LinkMembers.{file_of_range};
 ghost use Rattle.elf_resolve.specs.LinkPlaces.{IsLinkAt, input_made, is_new_input};
 ghost use Rattle.elf_resolve.specs.Plans.{IsStaticPlan, planned_files, plan_steps};
 ghost use Rattle.elf_resolve.specs.Resolved.{linking_of};
+ghost use Rattle.elf_resolve.specs.NamedRows.{KeepsRowNames};
 ghost use Rattle.elf_resolve.specs.ResolvedInputs.{AddedRowOf, AskedNames, IsAtStep, IsFresh, IsLink, IsPlanned, OpenedGroup, TookAll, TookInput};
 
 use crate::link_faults::{LinkFault, refused};
@@ -36,6 +37,11 @@ impl Resolver<'_> {
             slice_get self.old.states.items index ≡ Some InputState.New →
             OnOk result (TookInput all self.old self.new index
             (input_taken (linking_of self.old) index (files_as_inputs all index))) }
+        ensures text { F.text files.new ≡ F.text files.old }
+        ensures names { (all : LinkFiles) → IsPlanned all (F.file files.old) index input →
+            IsLink all self.old →
+            slice_get self.old.states.items index ≡ Some InputState.New →
+            OnOk result (KeepsRowNames all self.old self.new) }
     {
         self.set_state(index, InputState::Done);
         self.take_kind(files, input, index)
@@ -57,6 +63,11 @@ impl Resolver<'_> {
             slice_get self.old.states.items index ≡ Some InputState.Done →
             OnOk result (TookInput all self.old self.new index
             (input_taken (linking_of self.old) index (files_as_inputs all index))) }
+        ensures text { F.text files.new ≡ F.text files.old }
+        ensures names { (all : LinkFiles) → IsPlanned all (F.file files.old) index input →
+            IsLink all self.old →
+            slice_get self.old.states.items index ≡ Some InputState.Done →
+            OnOk result (KeepsRowNames all self.old self.new) }
     {
         match input.kind {
             InputKind::Missing => {
@@ -90,6 +101,12 @@ impl Resolver<'_> {
             slice_get self.old.states.items index ≡ Some InputState.Done →
             OnOk result (TookInput all self.old self.new index
             (input_taken (linking_of self.old) index (files_as_inputs all index))) }
+        ensures text { F.text files.new ≡ F.text files.old }
+        ensures names { (all : LinkFiles) (file : List ℕ) →
+            IsPlanned all (F.file files.old) index input →
+            F.file files.old index ≡ Some file → all.file index ≡ Some file → IsLink all self.old →
+            slice_get self.old.states.items index ≡ Some InputState.Done →
+            OnOk result (KeepsRowNames all self.old self.new) }
     {
         let mut src = self.open(files, index)?;
         let taken = self.take_file(files, &mut src, input, index);
@@ -108,6 +125,7 @@ impl Resolver<'_> {
     ) -> Result<Counted<RangeSource<F::InputSource>>, LinkFault>
         ensures same { self.new ≡ self.old }
         ensures file { F.file files.new ≡ F.file files.old }
+        ensures text { F.text files.new ≡ F.text files.old }
         ensures opens { (file : List ℕ) → F.file files.old input ≡ Some file → IfOk result
             (λ src. (src.seen.file ≡ Some file) × (file_of_range src.seen ≡ Some file)) }
     {
@@ -140,12 +158,19 @@ impl Resolver<'_> {
         input: LinkInput,
         index: u32,
     ) -> Result<(), LinkFault>
-        ensures { (all : LinkFiles) (file : List ℕ) → IsPlanned all (F.file files.now) index input →
+        ensures takes { (all : LinkFiles) (file : List ℕ) →
+            IsPlanned all (F.file files.now) index input →
             IsLink all self.old → src.old.seen.file ≡ Some file →
             file_of_range src.old.seen ≡ Some file → all.file index ≡ Some file →
             slice_get self.old.states.items index ≡ Some InputState.Done →
             OnOk result (TookInput all self.old self.new index
             (input_taken (linking_of self.old) index (files_as_inputs all index))) }
+        ensures names { (all : LinkFiles) (file : List ℕ) →
+            IsPlanned all (F.file files.now) index input →
+            IsLink all self.old → src.old.seen.file ≡ Some file →
+            file_of_range src.old.seen ≡ Some file → all.file index ≡ Some file →
+            slice_get self.old.states.items index ≡ Some InputState.Done →
+            OnOk result (KeepsRowNames all self.old self.new) }
     {
         match input.kind {
             InputKind::Archive => self.take_archive(src, input.is_whole, index),
@@ -184,12 +209,13 @@ impl Resolver<'_> {
     /// # Errors
     /// The first fault of the file.
     fn take_one<S: Source>(&mut self, src: &mut Counted<S>, index: u32) -> Result<(), LinkFault>
-        ensures { (all : LinkFiles) (file : List ℕ) → IsLink all self.old →
+        ensures takes { (all : LinkFiles) (file : List ℕ) → IsLink all self.old →
             src.old.seen.file ≡ Some file → all.file index ≡ Some file →
             all.is_archive index ≡ false →
             slice_get self.old.states.items index ≡ Some InputState.Done →
             OnOk result (TookInput all self.old self.new index
             (input_taken (linking_of self.old) index (files_as_inputs all index))) }
+        ensures names { (all : LinkFiles) → OnOk result (KeepsRowNames all self.old self.new) }
     {
         let row = self.add_row(LinkRowKind::Object, index)?;
         take_object(src, &mut self.room, &mut self.link.keys, row)

@@ -9,6 +9,7 @@ ghost use Rattle.elf_resolve.specs.LinkMembers.{file_of_range};
 ghost use Rattle.elf_resolve.specs.LinkPlaces.{IsLinkAt, input_made, is_new_input};
 ghost use Rattle.elf_resolve.specs.Plans.{IsStaticPlan, planned_files, plan_steps};
 ghost use Rattle.elf_resolve.specs.Resolved.{linking_of};
+ghost use Rattle.elf_resolve.specs.NamedRows.{KeepsRowNames};
 ghost use Rattle.elf_resolve.specs.ResolvedInputs.{AddedRowOf, AskedNames, IsAtStep, IsFresh, IsLink, IsPlanned, OpenedGroup, TookAll, TookInput};
 
 use crate::archive_searches::element_at;
@@ -27,9 +28,16 @@ impl Resolver<'_> {
         files: &mut F,
         plan: &LinkPlan,
     ) -> Result<(), LinkFault>
-        ensures { (headers : ℕ) (whole : Linking) → IsStaticPlan (F.file files.old) plan.now →
+        ensures makes { (headers : ℕ) (whole : Linking) →
+            IsStaticPlan (F.file files.old) plan.now →
             let all = planned_files (F.file files.old) plan.now headers in
             IsAtStep all plan.now whole self.old 0 → OnOk result (TookAll all self.new whole) }
+        ensures text { F.text files.new ≡ F.text files.old }
+        ensures names { (headers : ℕ) (whole : Linking) →
+            IsStaticPlan (F.file files.old) plan.now →
+            let all = planned_files (F.file files.old) plan.now headers in
+            IsAtStep all plan.now whole self.old 0 →
+            OnOk result (KeepsRowNames all self.old self.new) }
     {
         let count = plan.steps.len();
         let mut place = 0;
@@ -61,6 +69,10 @@ impl Resolver<'_> {
             let all = planned_files (F.file files.old) plan.now headers in
             IsAtStep all plan.now whole self.old place →
             IfOk result (IsAtStep all plan.now whole self.new) }
+        ensures text { F.text files.new ≡ F.text files.old }
+        ensures names { (headers : ℕ) → IsStaticPlan (F.file files.old) plan.now →
+            let all = planned_files (F.file files.old) plan.now headers in
+            IsLink all self.old → OnOk result (KeepsRowNames all self.old self.new) }
     {
         let Some(step) = element_at(&plan.steps, place) else {
             return Err(LinkFault::Read);
@@ -99,10 +111,11 @@ impl Resolver<'_> {
     /// # Errors
     /// There is no room for another round.
     fn close_group(&mut self, next: usize) -> Result<usize, LinkFault>
-        ensures { (files : LinkFiles) (plan : LinkPlan) (whole : Linking) (place : ℕ) →
+        ensures steps { (files : LinkFiles) (plan : LinkPlan) (whole : Linking) (place : ℕ) →
             next ≡ place + 1 → slice_get plan.steps.items place ≡ Some LinkStep.Close →
             IsAtStep files plan whole self.old place →
             IfOk result (IsAtStep files plan whole self.new) }
+        ensures same { OnOk result (self.new ≡ record self.old { groups = self.new.groups }) }
     {
         let Some(group) = self.groups.pop() else {
             return Ok(next);
@@ -130,6 +143,10 @@ impl Resolver<'_> {
             IsLink all self.old → OnOk result (TookInput all self.old self.new input
             (input_made (is_new_input self.old.states.items input) (linking_of self.old) input
             (files_as_inputs all input))) }
+        ensures text { F.text files.new ≡ F.text files.old }
+        ensures names { (headers : ℕ) → IsStaticPlan (F.file files.old) plan.now →
+            let all = planned_files (F.file files.old) plan.now headers in
+            IsLink all self.old → OnOk result (KeepsRowNames all self.old self.new) }
     {
         let Some(known) = element_at(&plan.inputs, input as usize) else {
             return Err(LinkFault::Open);

@@ -9,6 +9,7 @@ ghost use Rattle.elf_model.specs.Tables.{SYMBOL_SIZE, entry_at};
 ghost use Rattle.elf_model.specs.declared.link_states.LinkRefusal.{LinkRefusal};
 ghost use Rattle.elf_source.specs.Prelude.{KeepsSource};
 ghost use Rattle.elf_resolve.specs.LinkMembers.{KnownMembers, TakesMember, file_of_range, members_by_file, range_before};
+ghost use Rattle.elf_resolve.specs.RowNames.{AddsName, member_names};
 ghost use Rattle.elf_resolve.specs.ObjectNames.{FindsInObject, definition_at};
 ghost use Rattle.elf_resolve.specs.ObjectTables.{HoldsSymbols, HoldsTables};
 ghost use Rattle.elf_resolve.specs.StringBuffers.{HoldsText};
@@ -92,6 +93,10 @@ impl<S: Source> MembersOfArchive<'_, S> {
             (known : KnownMembers self.old.src.now.seen.whole self.old.members.now
             (extent_of_names self.old.archive.names)) →
             TakesMember files known.file member row keys.old keys.new result }
+        ensures names { KnownMembers self.old.src.now.seen.whole self.old.members.now
+            (extent_of_names self.old.archive.names) → OnOk result
+            (AddsName self.old.room.now.names self.new.room.now.names row
+            (member_names (file_of_range self.old.src.now.seen) member)) }
     {
         let at = place_of(self.members, member)?;
         self.src.widen();
@@ -123,6 +128,7 @@ impl<S: Source> MembersOfArchive<'_, S> {
             (extent_of_names self.old.archive.names)) → IfOk result (λ is_defined. is_defined
             ≡ (members_by_file (Some known.file) self.old.room.now.headers).defines entry.member
             (index_name keys.now.keys entry)) }
+        ensures names { self.new.room.now.names ≡ self.old.room.now.names }
     {
         let at = place_of(self.members, entry.member)?;
         self.src.widen();
@@ -168,6 +174,10 @@ impl<S: Source> ArchiveObjects for MembersOfArchive<'_, S> {
         (extent_of_names s.archive.names) };
 
     ghost kept = { λ s. s.src.ghost_name ∷ s.room.ghost_name ∷ s.room.now.headers ∷ [] };
+
+    ghost names = { λ s. s.room.now.names };
+
+    ghost named = { λ s. member_names (file_of_range s.src.now.seen) };
 
     fn take<'a>(&mut self, member: u32, row: u32, keys: &mut KeyTable<'a>) -> Result<(), LinkStop> {
         match self.take_member(member, row, keys) {

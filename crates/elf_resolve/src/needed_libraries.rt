@@ -78,7 +78,8 @@ impl Resolver<'_> {
         files: &mut F,
         library: usize,
     ) -> Result<(), LinkFault>
-        ensures { F.file files.new ≡ F.file files.old }
+        ensures file { F.file files.new ≡ F.file files.old }
+        ensures text { F.text files.new ≡ F.text files.old }
     {
         let Some(known) = self.libraries.get(library) else {
             return Ok(());
@@ -103,7 +104,8 @@ impl Resolver<'_> {
         library: usize,
         known: LinkLibrary,
     ) -> Result<LibraryEnd, LinkFault>
-        ensures { F.file files.new ≡ F.file files.old }
+        ensures file { F.file files.new ≡ F.file files.old }
+        ensures text { F.text files.new ≡ F.text files.old }
     {
         let mut src = self.open(files, known.input)?;
         let keys = &mut self.link.keys;
@@ -124,7 +126,8 @@ impl Resolver<'_> {
     /// # Errors
     /// One cannot be opened; the first fault of one; there is no room.
     pub(crate) fn offer_libraries<F: InputFiles>(&mut self, files: &mut F) -> Result<(), LinkFault>
-        ensures { self.old.libraries.libraries.items ≡ [] → self.new ≡ self.old }
+        ensures same { self.old.libraries.libraries.items ≡ [] → self.new ≡ self.old }
+        ensures text { F.text files.new ≡ F.text files.old }
     {
         let count = self.libraries.len();
         if count == 0 {
@@ -144,7 +147,9 @@ impl Resolver<'_> {
         &mut self,
         files: &mut F,
         library: usize,
-    ) -> Result<(), LinkFault> {
+    ) -> Result<(), LinkFault>
+        ensures text { F.text files.new ≡ F.text files.old }
+    {
         let Some(known) = self.libraries.get(library) else {
             return Ok(());
         };

@@ -2,7 +2,10 @@
 ghost use Rattle.std.specs.Prelude.{◌≡◌, IfOk, List, OnOk, ℕ};
 ghost use Rattle.elf_model.specs.LinkPasses.{ArchiveMembers, archive_searched, asks_for as asks_by, entry_visited, index_name, index_passed, is_new as is_new_of, is_taken as is_taken_of, key_of_entry as key_of, member_row as row_of};
 ghost use Rattle.elf_resolve.specs.KeptLimits.{KeepsLimits};
+ghost use Rattle.elf_model.specs.Names.{DisplayedName};
+ghost use Rattle.elf_resolve.specs.MemberNames.{RowName};
 ghost use Rattle.elf_resolve.specs.Passing.{Moved, TookObject, searched_archive, pass_of};
+ghost use Rattle.elf_resolve.specs.RowNames.{AddsName, KeepsMemberNames};
 
 use crate::rows::RowTable;
 use crate::table::{KeyTable, LinkStop};
@@ -27,13 +30,17 @@ pub struct ArchiveInput {
 }
 
 /// The objects that are the members of an archive. What is promised of them is promised if they are
-/// `known`; what is `kept` stays the same.
+/// `known`; what is `kept` stays the same. `names` are held for rows, and a member is `named`.
 pub trait ArchiveObjects {
     ghost members: { Self → ArchiveMembers };
 
     ghost known: { Self → Type 0 };
 
     ghost kept: { Self → List ℕ };
+
+    ghost names: { Self → List RowName };
+
+    ghost named: { Self → (member : ℕ) → DisplayedName };
 
     /// Takes the groups and the symbols of a member, which has the row `row`.
     ///
@@ -42,6 +49,9 @@ pub trait ArchiveObjects {
     fn take<'a>(&mut self, member: u32, row: u32, keys: &mut KeyTable<'a>) -> Result<(), LinkStop>
         ensures takes { known self.old
             → OnOk result (TookObject ((members self.old).objects member) keys.old keys.new row) }
+        ensures adds { known self.old
+            → OnOk result (AddsName (names self.old) (names self.new) row (named self.old member)) }
+        ensures named { named self.new ≡ named self.old }
         ensures same { members self.new ≡ members self.old }
         ensures kept { kept self.new ≡ kept self.old }
         ensures known { known self.old → known self.new };
@@ -54,6 +64,8 @@ pub trait ArchiveObjects {
     fn defines<'a>(&mut self, entry: IndexEntry, keys: &KeyTable<'a>) -> Result<bool, LinkStop>
         ensures defines { known self.old → IfOk result (λ is_defined. is_defined
             ≡ (members self.old).defines entry.member (index_name keys.now.keys entry)) }
+        ensures names { names self.new ≡ names self.old }
+        ensures named { named self.new ≡ named self.old }
         ensures same { members self.new ≡ members self.old }
         ensures kept { kept self.new ≡ kept self.old }
         ensures known { known self.old → known self.new };
@@ -100,6 +112,8 @@ fn asks_for<'a, M: ArchiveObjects>(
 ) -> Result<bool, LinkStop>
     ensures asks { M.known members.old → IfOk result
         (λ asks. asks ≡ asks_by (M.members members.old) keys.now.keys entry) }
+    ensures names { M.names members.new ≡ M.names members.old }
+    ensures named { M.named members.new ≡ M.named members.old }
     ensures same { M.members members.new ≡ M.members members.old }
     ensures kept { M.kept members.new ≡ M.kept members.old }
     ensures known { M.known members.old → M.known members.new }
@@ -145,6 +159,10 @@ pub fn visit_entry<'a, M: ArchiveObjects>(
         ≡ entry_visited (searched_archive archive (M.members members.old)) (pass_of link.old taken.old)
         entry) }
     ensures limits { M.known members.old → OnOk result (KeepsLimits link.old.keys link.new.keys) }
+    ensures names { M.known members.old → OnOk result
+        (KeepsMemberNames archive.input (M.named members.old) link.old.rows.rows link.new.rows.rows
+        (M.names members.old) (M.names members.new)) }
+    ensures named { M.named members.new ≡ M.named members.old }
     ensures same { M.members members.new ≡ M.members members.old }
     ensures kept { M.kept members.new ≡ M.kept members.old }
     ensures known { M.known members.old → M.known members.new }
@@ -180,6 +198,10 @@ pub fn pass_index<'a, M: ArchiveObjects>(
         ≡ index_passed (searched_archive archive (M.members members.old)) (pass_of link.old taken.old)
         entries.now) }
     ensures limits { M.known members.old → OnOk result (KeepsLimits link.old.keys link.new.keys) }
+    ensures names { M.known members.old → OnOk result
+        (KeepsMemberNames archive.input (M.named members.old) link.old.rows.rows link.new.rows.rows
+        (M.names members.old) (M.names members.new)) }
+    ensures named { M.named members.new ≡ M.named members.old }
     ensures same { M.members members.new ≡ M.members members.old }
     ensures kept { M.kept members.new ≡ M.kept members.old }
     ensures known { M.known members.old → M.known members.new }
@@ -206,6 +228,10 @@ pub fn search_archive<'a, M: ArchiveObjects>(
         ≡ archive_searched (searched_archive archive (M.members members.old)) entries.now
         (pass_of link.old taken.old)) }
     ensures limits { M.known members.old → OnOk result (KeepsLimits link.old.keys link.new.keys) }
+    ensures names { M.known members.old → OnOk result
+        (KeepsMemberNames archive.input (M.named members.old) link.old.rows.rows link.new.rows.rows
+        (M.names members.old) (M.names members.new)) }
+    ensures named { M.named members.new ≡ M.named members.old }
     ensures same { M.members members.new ≡ M.members members.old }
     ensures kept { M.kept members.new ≡ M.kept members.old }
     ensures known { M.known members.old → M.known members.new }

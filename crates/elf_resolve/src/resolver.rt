@@ -2,8 +2,9 @@
 ghost use Rattle.std.specs.Prelude.{◌≡◌, ◌≢◌, ◌+◌, ◌<◌, ◌∷◌, [], false, ℕ, List, get_or, length, map, IfOk, OnOk, None, Ok, Some};
 ghost use Rattle.std.specs.List.{slice_get};
 ghost use Rattle.std.proofs.Math.ListN.{set};
-ghost use Rattle.elf_model.specs.LinkArchives.{LinkFiles, files_as_inputs};
+ghost use Rattle.elf_model.specs.LinkArchives.{LinkFiles, files_as_inputs, names_of_files};
 ghost use Rattle.elf_model.specs.LinkInputs.{LinkInputs, Linking, file_row, input_taken, linked, with_arguments};
+ghost use Rattle.elf_resolve.specs.StaticLinks.{AreRowsNamed};
 ghost use Rattle.elf_source.specs.Prelude.{IsWholeRange};
 ghost use Rattle.elf_resolve.specs.LinkMembers.{file_of_range};
 ghost use Rattle.elf_resolve.specs.LinkPlaces.{IsLinkAt, input_made, is_new_input};
@@ -11,6 +12,7 @@ ghost use Rattle.elf_resolve.specs.ListRooms.{HasListRoom};
 ghost use Rattle.elf_resolve.specs.OwnLinks.{IsOwnLink};
 ghost use Rattle.elf_resolve.specs.Plans.{IsStaticPlan, planned_files, plan_steps};
 ghost use Rattle.elf_resolve.specs.Resolved.{linking_of};
+ghost use Rattle.elf_resolve.specs.NamedRows.{HasNames};
 ghost use Rattle.elf_resolve.specs.ResolvedInputs.{AddedRowOf, AskedNames, IsAtStep, IsFresh, IsLink, IsPlanned, OpenedGroup, TookAll, TookInput};
 ghost use Rattle.elf_resolve.specs.StaticLinks.{AreKeysListed};
 
@@ -172,6 +174,17 @@ impl<'a> Resolver<'a> {
         ensures listed { (inputs : LinkInputs) → IsFresh self.old →
             IsStaticPlan (F.file files.old) plan.now → plan_steps inputs ≡ plan.now.steps.items →
             self.new.end ≡ None → OnOk result (AreKeysListed self.new) }
+        ensures text { F.text files.new ≡ F.text files.old }
+        ensures names { (inputs : LinkInputs) → IsFresh self.old →
+            IsStaticPlan (F.file files.old) plan.now → plan_steps inputs ≡ plan.now.steps.items →
+            self.new.end ≡ None → OnOk result (HasNames
+            (planned_files (F.file files.old) plan.now self.old.room.headers) self.new) }
+        ensures named { (inputs : LinkInputs) (path : ℕ → List ℕ) → IsFresh self.old →
+            IsStaticPlan (F.file files.old) plan.now → plan_steps inputs ≡ plan.now.steps.items →
+            ((input : ℕ) → F.text files.old input ≡ Some (path input)) →
+            self.new.end ≡ None → OnOk result (AreRowsNamed (F.text files.new)
+            (names_of_files (planned_files (F.file files.old) plan.now self.old.room.headers)
+            path) self.new) }
         ensures kinds { (inputs : LinkInputs) → IsFresh self.old →
             IsStaticPlan (F.file files.old) plan.now → plan_steps inputs ≡ plan.now.steps.items →
             self.new.end ≡ None →
@@ -189,6 +202,7 @@ impl<'a> Resolver<'a> {
         ensures kinds { self.new.kinds ≡ self.old.kinds }
         ensures lists { HasListRoom self.old → IsOwnLink (linking_of self.old) →
             AreKeysListed self.new }
+        ensures room { self.new.room ≡ self.old.room }
     {
         self.chain_entries();
         self.chain_further();
@@ -203,6 +217,8 @@ impl<'a> Resolver<'a> {
         ensures same { linking_of self.new ≡ linking_of self.old }
         ensures rest { self.new ≡ record self.old { end = self.new.end } }
         ensures ends { self.new.end ≡ None → OnOk result (taken ≡ Ok tt) }
+        ensures room { self.new.room ≡ self.old.room }
+        ensures kinds { self.new.kinds ≡ self.old.kinds }
     {
         match taken {
             Ok(()) => Ok(()),
@@ -233,6 +249,11 @@ impl<'a> Resolver<'a> {
         ensures room { (inputs : LinkInputs) → IsFresh self.old →
             IsStaticPlan (F.file files.old) plan.now → plan_steps inputs ≡ plan.now.steps.items →
             OnOk result (HasListRoom self.new) }
+        ensures text { F.text files.new ≡ F.text files.old }
+        ensures names { (inputs : LinkInputs) → IsFresh self.old →
+            IsStaticPlan (F.file files.old) plan.now → plan_steps inputs ≡ plan.now.steps.items →
+            OnOk result (HasNames
+            (planned_files (F.file files.old) plan.now self.old.room.headers) self.new) }
     {
         self.take_inputs(files, asked, plan)?;
         self.offer_libraries(files)
@@ -248,11 +269,16 @@ impl<'a> Resolver<'a> {
         asked: &[&str],
         plan: &LinkPlan,
     ) -> Result<(), LinkFault>
-        ensures { (inputs : LinkInputs) → IsFresh self.old →
+        ensures takes { (inputs : LinkInputs) → IsFresh self.old →
             IsStaticPlan (F.file files.old) plan.now → plan_steps inputs ≡ plan.now.steps.items →
             let all = planned_files (F.file files.old) plan.now self.old.room.headers in
             OnOk result (TookAll all self.new
             (linked (files_as_inputs all) (map (λ name. name.now) asked.now) inputs)) }
+        ensures text { F.text files.new ≡ F.text files.old }
+        ensures names { (inputs : LinkInputs) → IsFresh self.old →
+            IsStaticPlan (F.file files.old) plan.now → plan_steps inputs ≡ plan.now.steps.items →
+            OnOk result (HasNames
+            (planned_files (F.file files.old) plan.now self.old.room.headers) self.new) }
     {
         self.ask_all(asked)?;
         self.take_steps(files, plan)
@@ -286,7 +312,8 @@ impl<'a> Resolver<'a> {
     /// # Errors
     /// `TooManyRows` at 0 if there is no room for it.
     pub(crate) fn add_row(&mut self, kind: LinkRowKind, input: u32) -> Result<u32, LinkFault>
-        ensures { IfOk result (AddedRowOf self.old self.new (file_row kind input)) }
+        ensures adds { IfOk result (AddedRowOf self.old self.new (file_row kind input)) }
+        ensures room { self.new.room ≡ self.old.room }
     {
         let row = LinkRow {
             kind,

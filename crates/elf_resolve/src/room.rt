@@ -1,5 +1,5 @@
 //! The limits of a link, and the memory for one file at a time.
-ghost use Rattle.std.specs.Prelude.{◌≡◌, ◌*◌, ◌≤◌, None, IfErr, IfOk, vec_len};
+ghost use Rattle.std.specs.Prelude.{◌≡◌, ◌*◌, ◌≤◌, [], None, IfErr, IfOk, vec_len};
 ghost use Rattle.elf_resolve.specs.Taken.{IsLinkFault};
 ghost use Rattle.elf_table.specs.Store.{slots_of};
 
@@ -79,7 +79,8 @@ impl LinkRoom {
     /// # Errors
     /// Out of memory.
     pub fn new(alloc: Global, caps: &LinkCaps) -> Result<LinkRoom, AllocError>
-        ensures { IfOk result (λ room. room.headers ≡ caps.now.headers) }
+        ensures headers { IfOk result (λ room. room.headers ≡ caps.now.headers) }
+        ensures names { IfOk result (λ room. room.names ≡ []) }
     {
         let headers = caps.headers;
         let header_bytes = Vec::with_capacity(alloc, HEADER_BYTES * headers as usize)?;

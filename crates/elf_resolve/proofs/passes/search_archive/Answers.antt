@@ -2,6 +2,7 @@ use Rattle.std.proofs.Common.{sym, ◌∙◌}
 use Rattle.elf_resolve.specs.Passing.{pass_of}
 use Rattle.elf_resolve.proofs.ListRoomLaws.{limits_then}
 use Rattle.elf_resolve.proofs.PassingLaws.{another, fewer_moved, last_pass}
+use Rattle.elf_resolve.proofs.RowNameLaws.{held_then}
 use Rattle.elf_resolve.proofs.passes.search_archive.Goals as goal
 
 pub returns-then-asked-before-clause-searches : goal.returns-then-asked-before-clause-searches
@@ -23,4 +24,11 @@ loop-preserved g c = (
   another c.args.archive _ _ _ _ _ (g.M.ArchiveObjects.known c.pass_index.new.members) _ _ (pass_of c.pass_index.new.link c.pass_index.new.taken) c.args.entries.now c.loop.invariant.1 c.pass_index.ensures.same
       c.pass_index.ensures.known c.in_ok-pass_index.ensures.passes (λ same. c.if-asked-before.false (c.asked.ensures ∙ same ∙ sym c.asked-before.ensures)),
   λ known. limits_then c.args.link.now.keys c.loop.link.keys c.pass_index.new.link.keys (c.loop.invariant.2 known) (c.in_ok-pass_index.ensures.limits (c.loop.invariant.1.known known)),
+  held_then _ _ _ _ (g.M.ArchiveObjects.named c.pass_index.new.members) _ _ c.pass_index.new.link.rows.rows _ _ (g.M.ArchiveObjects.names c.pass_index.new.members) _ c.loop.invariant.1.known c.loop.invariant.3 c.pass_index.ensures.named
+      c.in_ok-pass_index.ensures.names,
 )
+
+pub returns-then-asked-before-clause-names : goal.returns-then-asked-before-clause-names
+returns-then-asked-before-clause-names g c known =
+    (held_then _ _ _ _ (g.M.ArchiveObjects.named c.pass_index.new.members) _ _ c.pass_index.new.link.rows.rows _ _ (g.M.ArchiveObjects.names c.pass_index.new.members) _ c.loop.invariant.1.known c.loop.invariant.3 c.pass_index.ensures.named
+    c.in_ok-pass_index.ensures.names).keeps known

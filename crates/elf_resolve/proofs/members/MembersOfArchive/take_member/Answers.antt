@@ -1,4 +1,4 @@
-use Rattle.std.proofs.Common.{◌≡◌, ℕ, ◌<◌, List, length, sym, ap, subst, ◌∙◌, arith}
+use Rattle.std.proofs.Common.{◌≡◌, ℕ, ◌<◌, List, [], ◌∷◌, ◌++◌, length, sym, ap, subst, ◌∙◌, arith}
 use Rattle.std.specs.Prelude.{IfSome, Ok, Option, map, option_map}
 use Rattle.std.proofs.lemmas.List.{length-map}
 use Rattle.std.proofs.lemmas.Result.{err_from_is_err_and}
@@ -7,11 +7,12 @@ use Rattle.elf_model.specs.Archive.{FileRange}
 use Rattle.elf_model.specs.Bytes.{slice}
 use Rattle.elf_model.specs.LinkArchives.{link_members, name_table, refusal_of, table_before}
 use Rattle.elf_model.specs.LinkSymbols.{object_of}
-use Rattle.elf_resolve.specs.LinkMembers.{range_before, whole_file_of}
+use Rattle.elf_resolve.specs.LinkMembers.{file_of_range, range_before, whole_file_of}
 use Rattle.elf_resolve.specs.Taken.{IsLinkFault, TakesObject, data_of, header_of}
 use Rattle.elf_resolve.proofs.IndexParts.{unrefused_small}
 use Rattle.elf_resolve.proofs.MemberTaking.{header_of_index, member_of_index, name_refused, object_refused, table_of_member, table_within, took_member, widened_file}
 use Rattle.elf_resolve.proofs.MemberWalks.{data_within_file}
+use Rattle.elf_resolve.proofs.RowNameLaws.{name_by_file}
 use Rattle.elf_resolve.proofs.members.MembersOfArchive.take_member.Goals as goal
 
 -- the member is one of the archive
@@ -99,3 +100,20 @@ returns-in-Err-clause-takes g c = λ files headers known under moves.
     let narrowed = c.in_ok-narrow_to.ensures.narrows file held in
     let fault = subst (λ n. IsLinkFault (refusal_of (object_of bytes n)) c.in-Err.fault) (sym headers) (c.in-Err.ensures.takes bytes narrowed) in
     object_refused files file member at table under here names extent read.name c.in-Err.fault c.in_member.result read.member moves fault c.in_member.ensures
+
+pub returns-in-Ok-clause-names : goal.returns-in-Ok-clause-names
+returns-in-Ok-clause-names g c = λ known.
+    let file = known.file in
+    let member = c.args.member in
+    let at = c.in_ok-at.at in
+    let place = c.in_ok-at.ensures.place in
+    let below = one_of file c.args.self.now.members.now member known.offsets_are place.0 in
+    let here = header_of_index file c.args.self.now.members.now member at known.offsets_are below place.1 in
+    let whole = widened_file c.args.self.now.src.now c.widen.new.self file c.widen.ensures known.is in
+    let archive_names = extent_of_names c.args.self.now.archive.names in
+    let table = extent_of_names c.names_before-names.result in
+    let names = names_here file member at archive_names table below here known.names_are c.names_before-names.ensures in
+    let inside = names_within file at archive_names table known.names_are c.names_before-names.ensures in
+    let read = c.in_ok-extent.ensures.reads file whole inside in
+    let named = name_by_file (file_of_range c.args.self.now.src.now.seen) file member at table (extent_of c.in_ok-extent.extent) read.name known.is here names read.member in
+    c.take_object-taken.ensures.names ∙ read.added ∙ ap (λ n. c.args.self.now.room.now.names ++ (record { row = c.args.row; name = n }) ∷ []) named

@@ -2,10 +2,11 @@ use Rattle.std.proofs.Common.{◌≡◌, length, refl, arith}
 use Rattle.std.specs.Vec.{with_items}
 use Rattle.std.proofs.lemmas.List.{with_items_is}
 use Rattle.elf_resolve.proofs.TakenMemberLaws.{on_ok, search_has, search_makes}
+use Rattle.elf_resolve.proofs.NamedRowLaws.{archive_has, names_searched}
 use Rattle.elf_resolve.proofs.resolver.Resolver.search.Goals as goal
 
-pub returns-in-Ok : goal.returns-in-Ok
-returns-in-Ok g c = λ files file is found file_is known.
+pub returns-in-Ok-clause-searches : goal.returns-in-Ok-clause-searches
+returns-in-Ok-clause-searches g c = λ files file is found file_is known.
     let after = c.search_members-found.new.taken in
     let count : length after ≡ c.args.self.now.taken.len = omega (arith, c.search_members-found.auto.taken, c.deref_mut.ensures.len) in
     let new = record c.args.self.now { link = c.search_members-found.new.link; taken = with_items c.args.self.now.taken after; room = c.search_members-found.new.room } in
@@ -14,3 +15,9 @@ returns-in-Ok g c = λ files file is found file_is known.
     let has = search_has files file c.args.self.now c.args.archive is found file_is in
     let limits = on_ok _ _ _ c.in-Ok.is (c.search_members-found.ensures.limits file known has) in
     record { makes = made.0; headers = c.search_members-found.ensures.headers; libraries = refl; tables = refl; states = refl; groups = refl; count = made.1; lists = record { offers = refl; further = refl; spare = refl; kinds = refl; problems = refl }; limits = limits }
+
+pub returns-in-Ok-clause-names : goal.returns-in-Ok-clause-names
+returns-in-Ok-clause-names g c = λ files file is found file_is known.
+    let new = record c.args.self.now { link = c.search_members-found.new.link; room = c.search_members-found.new.room } in
+    names_searched files file c.args.archive c.args.self.now new file_is
+    (on_ok _ _ _ c.in-Ok.is (c.search_members-found.ensures.names file known (archive_has files file c.args.self.now c.args.archive is found file_is)))

@@ -3,24 +3,48 @@ use Rattle.elf_resolve.specs.LinkMembers.{whole_file_of}
 use Rattle.elf_resolve.specs.ResolvedInputs.{IsArchiveAt, OpenedAs}
 use Rattle.elf_resolve.proofs.ResolvedLaws.{opened_members, search_found, searched_taken, whole_taken}
 use Rattle.elf_resolve.proofs.TakenMemberLaws.{on_ok_then}
+use Rattle.elf_resolve.specs.declared.archives.OpenedArchive.{OpenedArchive}
+use Rattle.elf_resolve.specs.declared.passes.Link.{Link}
+use Rattle.elf_resolve.specs.declared.room.LinkRoom.{LinkRoom}
+use Rattle.elf_resolve.proofs.NamedRowLaws.{rows_still}
 use Rattle.elf_resolve.proofs.resolver.Resolver.take_archive.Goals as goal
 
-pub returns-then-is_whole : goal.returns-then-is_whole
-returns-then-is_whole g c = λ files file is at.
+pub returns-then-is_whole-clause-takes : goal.returns-then-is_whole-clause-takes
+returns-then-is_whole-clause-takes g c = λ files file is at.
     let read = c.in_ok-archive.ensures.opens file at.seen_is is.marked in
     let archive = c.in_ok-archive.archive in
     let opened = subst (λ w. OpenedAs file w c.args.input c.args.self.now c.open_archive.new.self archive) c.if-is_whole.true read in
     let at_whole = subst (λ w. IsArchiveAt files file c.args.self.now c.args.src.now.seen w c.args.input) c.if-is_whole.true at in
     on_ok_then _ _ c.take_whole.result (whole_taken files file c.args.src.now.seen c.args.input c.args.self.now c.open_archive.new.self c.take_whole.new.self archive is at_whole opened)
-    (c.take_whole.ensures file (ap whole_file_of c.in_ok-archive.ensures.below ∙ at.below) (opened_members file _ c.args.input c.args.self.now c.open_archive.new.self archive opened))
+    (c.take_whole.ensures.takes file (ap whole_file_of c.in_ok-archive.ensures.below ∙ at.below) (opened_members file _ c.args.input c.args.self.now c.open_archive.new.self archive opened))
 
-pub returns : goal.returns
-returns g c = λ files file is at.
+pub returns-clause-takes : goal.returns-clause-takes
+returns-clause-takes g c = λ files file is at.
     let read = c.in_ok-archive.ensures.opens file at.seen_is is.marked in
     let archive = c.in_ok-archive.archive in
     let opened = subst (λ w. OpenedAs file w c.args.input c.args.self.now c.open_archive.new.self archive) c.if-is_whole.false read in
     let at_searched = subst (λ w. IsArchiveAt files file c.args.self.now c.args.src.now.seen w c.args.input) c.if-is_whole.false at in
-    let kept = c.in_ok-keep_archive.ensures in
+    let kept = c.in_ok-keep_archive.ensures.keeps in
     let found = search_found files file c.args.src.now.seen c.args.input c.args.self.now c.open_archive.new.self c.keep_archive.new.self archive is at_searched opened kept in
     on_ok_then _ _ c.search.result (searched_taken files file c.args.src.now.seen c.args.input c.args.self.now c.open_archive.new.self c.keep_archive.new.self c.search.new.self archive is at_searched opened kept)
-    (c.search.ensures files file found.0 found.1 found.2 (ap whole_file_of c.in_ok-archive.ensures.below ∙ at.below))
+    (c.search.ensures.searches files file found.0 found.1 found.2 (ap whole_file_of c.in_ok-archive.ensures.below ∙ at.below))
+
+pub returns-then-is_whole-clause-names : goal.returns-then-is_whole-clause-names
+returns-then-is_whole-clause-names g c = λ files file is at.
+    let opened = c.in_ok-archive.ensures.opens file at.seen_is is.marked in
+    let archive = c.in_ok-archive.archive in
+    let file_is = ap (λ (a : OpenedArchive). files.file a.input) opened.archive_is ∙ at.file_is in
+    on_ok_then _ _ c.take_whole.result (λ keep held. keep (c.in_ok-archive.ensures.names files held))
+    (c.take_whole.ensures.names files file file_is (ap whole_file_of c.in_ok-archive.ensures.below ∙ at.below) (opened_members file _ c.args.input c.args.self.now c.open_archive.new.self archive opened))
+
+pub returns-clause-names : goal.returns-clause-names
+returns-clause-names g c = λ files file is at.
+    let read = c.in_ok-archive.ensures.opens file at.seen_is is.marked in
+    let archive = c.in_ok-archive.archive in
+    let opened = subst (λ w. OpenedAs file w c.args.input c.args.self.now c.open_archive.new.self archive) c.if-is_whole.false read in
+    let at_searched = subst (λ w. IsArchiveAt files file c.args.self.now c.args.src.now.seen w c.args.input) c.if-is_whole.false at in
+    let kept = c.in_ok-keep_archive.ensures.keeps in
+    let found = search_found files file c.args.src.now.seen c.args.input c.args.self.now c.open_archive.new.self c.keep_archive.new.self archive is at_searched opened kept in
+    let still = rows_still files c.open_archive.new.self c.keep_archive.new.self (ap (λ (r : LinkRoom). r.names) c.keep_archive.ensures.names) (ap (λ (l : Link). l.rows.rows) kept.link) in
+    on_ok_then _ _ c.search.result (λ keep held. keep (still (c.in_ok-archive.ensures.names files held)))
+    (c.search.ensures.names files file found.0 found.1 found.2 (ap whole_file_of c.in_ok-archive.ensures.below ∙ at.below))

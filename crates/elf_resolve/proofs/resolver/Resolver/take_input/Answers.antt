@@ -1,3 +1,6 @@
+use Rattle.std.proofs.Common.{ap}
+use Rattle.elf_resolve.specs.declared.resolver.Resolver.{Resolver}
+use Rattle.elf_resolve.proofs.NamedRowLaws.{rows_still}
 use Rattle.elf_resolve.proofs.TakenMemberLaws.{on_ok_then}
 use Rattle.elf_resolve.proofs.TakenLaws.{reached_done, reached_link, reached_took}
 use Rattle.elf_resolve.proofs.resolver.Resolver.take_input.Goals as goal
@@ -7,4 +10,12 @@ returns-clause-takes g c = λ all planned is is_new.
     let marked = c.set_state.new.self in
     on_ok_then _ _ c.take_kind.result (reached_took all c.args.self.now marked c.take_kind.new.self c.args.index c.set_state.ensures.same c.set_state.ensures.sets)
     (c.take_kind.ensures.takes all planned (reached_link all c.args.self.now marked c.args.index is is_new c.set_state.ensures.same c.set_state.ensures.sets)
+    (reached_done c.args.self.now marked c.args.index is_new c.set_state.ensures.sets))
+
+pub returns-clause-names : goal.returns-clause-names
+returns-clause-names g c = λ all planned is is_new.
+    let marked = c.set_state.new.self in
+    let still = rows_still all c.args.self.now marked (ap (λ (r : Resolver). r.room.names) c.set_state.ensures.same) (ap (λ (r : Resolver). r.link.rows.rows) c.set_state.ensures.same) in
+    on_ok_then _ _ c.take_kind.result (λ keep held. keep (still held))
+    (c.take_kind.ensures.names all planned (reached_link all c.args.self.now marked c.args.index is is_new c.set_state.ensures.same c.set_state.ensures.sets)
     (reached_done c.args.self.now marked c.args.index is_new c.set_state.ensures.sets))

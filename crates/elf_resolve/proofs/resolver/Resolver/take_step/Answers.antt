@@ -14,7 +14,7 @@ returns-in_ok-open_group-in-Open-clause-steps g c = λ headers whole static next
 pub returns-in-Close-clause-steps : goal.returns-in-Close-clause-steps
 returns-in-Close-clause-steps g c = λ headers whole static next_is at.
     let here : slice_get c.args.plan.now.steps.items c.args.place ≡ Some step.Close = cc (c.element_at.ensures, c.deref.ensures.value, c.in-Some.is, c.in-Close.is) in
-    c.close_group.ensures (planned_files (g.F.InputFiles.file c.args.files.now) c.args.plan.now headers) c.args.plan.now whole c.args.place next_is here at
+    c.close_group.ensures.steps (planned_files (g.F.InputFiles.file c.args.files.now) c.args.plan.now headers) c.args.plan.now whole c.args.place next_is here at
 
 pub returns-in_ok-visit-in-Input-clause-steps : goal.returns-in_ok-visit-in-Input-clause-steps
 returns-in_ok-visit-in-Input-clause-steps g c = λ headers whole static next_is at.
@@ -23,3 +23,7 @@ returns-in_ok-visit-in-Input-clause-steps g c = λ headers whole static next_is 
     let old = c.args.self.now in
     let took = c.in_ok-visit-in-Input.ensures.visits headers static (row_link_still all old None at.is_link) in
     step_takes all c.args.plan.now whole old c.visit.new.self c.args.place c.args.next c.in-Input.input static.distinct next_is here (took_from_row all old None c.visit.new.self c.in-Input.input took) at
+
+pub returns-in_ok-visit-in-Input-clause-names : goal.returns-in_ok-visit-in-Input-clause-names
+returns-in_ok-visit-in-Input-clause-names g c = λ headers static is.
+    c.in_ok-visit-in-Input.ensures.names headers static (row_link_still (planned_files (g.F.InputFiles.file c.args.files.now) c.args.plan.now headers) c.args.self.now None is)

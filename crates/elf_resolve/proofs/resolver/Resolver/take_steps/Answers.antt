@@ -1,11 +1,12 @@
 use Rattle.std.proofs.Common.{◌≤◌, length, refl, sym, subst, ◌∙◌, arith}
+use Rattle.elf_resolve.specs.NamedRows.{KeepsRowNames}
 use Rattle.elf_resolve.specs.Plans.{IsStaticPlan, planned_files}
-use Rattle.elf_resolve.specs.ResolvedInputs.{IsAtStep}
+use Rattle.elf_resolve.specs.ResolvedInputs.{IsAtStep, IsLink}
 use Rattle.elf_resolve.proofs.StepLaws.{steps_end}
 use Rattle.elf_resolve.proofs.resolver.Resolver.take_steps.Goals as goal
 
-pub returns-then-place-count : goal.returns-then-place-count
-returns-then-place-count g c = λ headers whole static at.
+pub returns-then-place-count-clause-makes : goal.returns-then-place-count-clause-makes
+returns-then-place-count-clause-makes g c = λ headers whole static at.
     let past : length c.args.plan.now.steps.items ≤ c.turns.place = omega (arith, c.len-count.ensures, c.args.plan.now.steps.ok.0, c.if-place-count.true) in
     steps_end (planned_files (g.F.InputFiles.file c.args.files.now) c.args.plan.now headers) c.args.plan.now whole c.turns.self c.turns.place past (c.turns.invariant.1 headers whole static at)
 
@@ -18,4 +19,12 @@ turns-preserved g c = (
       let static_now = subst (λ k. IsStaticPlan k plan) (sym c.turns.invariant.0) static in
       let before_now = subst (λ k. IsAtStep (planned_files k plan headers) plan whole c.turns.self c.turns.place) (sym c.turns.invariant.0) before in
       subst (λ k. IsAtStep (planned_files k plan headers) plan whole c.take_step.new.self c.in_ok-after.after) c.turns.invariant.0 (c.in_ok-after.ensures.steps headers whole static_now refl before_now),
+  c.take_step.ensures.text ∙ c.turns.invariant.2,
+  λ headers whole static at held.
+      let plan = c.args.plan.now in
+      let before = c.turns.invariant.1 headers whole static at in
+      let static_now = subst (λ k. IsStaticPlan k plan) (sym c.turns.invariant.0) static in
+      let is_now = subst (λ k. IsLink (planned_files k plan headers) c.turns.self) (sym c.turns.invariant.0) before.is_link in
+      let keeps = subst (λ k. KeepsRowNames (planned_files k plan headers) c.turns.self c.take_step.new.self) c.turns.invariant.0 (c.in_ok-after.ensures.names headers static_now is_now) in
+      keeps (c.turns.invariant.3 headers whole static at held),
 )

@@ -1,8 +1,9 @@
 use Rattle.std.proofs.Common.{◌≡◌, ℕ, List, drop}
 use Rattle.std.specs.Prelude.{Some}
-use Rattle.elf_model.specs.LinkArchives.{link_members, whole_members}
+use Rattle.elf_model.specs.LinkArchives.{LinkFiles, link_members, whole_members}
 use Rattle.elf_model.specs.LinkInputs.{members_taken}
 use Rattle.elf_resolve.specs.LinkMembers.{file_of_range}
+use Rattle.elf_resolve.specs.NamedRows.{KeepsRowNames}
 use Rattle.elf_resolve.specs.OpenedArchives.{HasMembers}
 use Rattle.elf_resolve.specs.Resolved.{linking_of}
 use Rattle.elf_resolve.specs.ResolvedInputs.{TookMembers}
@@ -16,3 +17,4 @@ invariant-loop-number g l =
     → TookMembers l.initial.self l.self (linking_of l.self)
     × (members_taken l.archive.input l.archive.row (linking_of l.self) (whole_members file l.number (drop l.number (link_members file).members) l.initial.self.room.headers)
     ≡ members_taken l.archive.input l.archive.row (linking_of l.initial.self) (whole_members file 0 (link_members file).members l.initial.self.room.headers)))
+    × ((files : LinkFiles) (file : List ℕ) → files.file l.archive.input ≡ Some file → file_of_range l.initial.src.seen ≡ Some file → HasMembers file l.initial.self.tables.members.items l.archive → KeepsRowNames files l.initial.self l.self)
