@@ -10,7 +10,6 @@ use Rattle.elf_model.specs.declared.link_states.IndexEntry.{IndexEntry}
 use Rattle.elf_model.specs.declared.link_states.KeyEntry.{KeyEntry}
 use Rattle.elf_model.specs.declared.link_states.KeyState.{KeyState}
 use Rattle.elf_model.specs.declared.link_states.KeyState.TheVariants.{Shared}
-use Rattle.elf_model.specs.declared.link_states.SymbolRole.TheVariants as role
 use Rattle.elf_model.specs.declared.link_states.SymbolUse.{SymbolUse}
 use Rattle.elf_resolve.specs.KeyLists.{AreKeyedEntries, AreKeyedFurther}
 use Rattle.elf_resolve.specs.KeyStates.{IsOwn, IsOwnState}

@@ -1,6 +1,6 @@
 -- Links without shared libraries: the state of each key is an own one, and further definitions and the
 -- entries of indexes are of keys.
-use Rattle.std.proofs.Common.{ℕ, zero, suc, ◌+◌, ◌<◌, ◌≤◌, Bool, true, false, List, [], ◌∷◌, ◌++◌, length, map, arith}
+use Rattle.std.proofs.Common.{ℕ, zero, suc, ◌<◌, ◌≤◌, Bool, true, false, List, [], ◌∷◌, ◌++◌, length, map, arith}
 use Rattle.std.specs.Prelude.{replicate, Option, None, Some, ◌==◌, if◌then◌else◌}
 use Rattle.elf_model.specs.LinkInputs.{EnteredIndex, IndexSymbol, InputFile, LinkInputs, Linking, OpenArchive, again_at, archive_again, archive_opened, argument_symbol, default_entered, default_index, file_row, group_settled, index_entered, input_again, input_taken, inputs_again, inputs_taken, linked, members_taken, opened_at, rounds_made, symbol_entered, untaken_in, whole_row, with_arguments, with_object, with_row, with_taken}
 use Rattle.elf_model.specs.LinkInputs.InputFile.{ObjectFile, SearchedFile, WholeFile, MissingFile}
