@@ -167,6 +167,12 @@ def causes_of(sources, commands):
     return words
 
 
+def link_causes_of(sources):
+    """The causes that only `resolve` has."""
+    words = one(r"^pub fn link_cause_word(.*?)^}", read(sources, "crates/elf_resolve/src/link_faults.rt"), "the words of the causes of links")
+    return set(re.findall(r'"([\w-]+)"', words))
+
+
 def items_of(sources):
     """For each item's prefix how many a layout holds, its index's range, and its name's length."""
     spelled = read(sources, "crates/elf_layout/src/spelled.rt")
@@ -275,7 +281,7 @@ class Truth:
         parts = one(r"static PARTS: (.*?)^\];", body, "the parts")
         self.parts = set(re.findall(r'"(\w+)"', parts)) - {"members"}
         self.items = items_of(sources)
-        self.causes = causes_of(sources, self.commands)
+        self.causes, self.link_causes = causes_of(sources, self.commands), link_causes_of(sources)
         self.limits = limits_of(sources)
         self.types, self.known_types = types_of(sources), known_types_of(sources)
         self.endings = endings_of(sources)
@@ -407,7 +413,7 @@ def check_man(counts, truth, page):
     counts.same("other name of a command", "man page, DESCRIPTION", truth.command_aliases, set(re.findall(r"^\.It Cm \w+ , (\w+)", about, re.M)))
     only = one(r"^\.It Fl o , Fl -only Ar PART\n(.*?)^\.It ", about, "--only of the man page")
     counts.same("part", "man page, --only", truth.parts | {"archive", "members"}, set(re.findall(r"^\.Cm (\w+)", only, re.M)))
-    counts.same("cause", "man page, CAUSES", truth.causes,
+    counts.same("cause", "man page, CAUSES", truth.causes | truth.link_causes,
                 set(re.findall(r"^\.It Li ([\w-]+)", section_of(page, "CAUSES"), re.M)))
     check_types(counts, truth, section_of(page, "CAUSES"))
     items = re.split(r"^\.It ?\n", section_of(page, "LIMITS"), flags=re.M)[1:]
@@ -494,6 +500,8 @@ def check_fish(counts, truth, text):
 def check_format(counts, truth, page):
     said = one(r"words of the causes:\n\n(.*?)\n\n", page, "the causes of docs/FORMAT.md")
     counts.same("cause", "docs/FORMAT.md", truth.causes, set(re.findall(r"`([\w-]+)`", said)))
+    said = one(r"Besides the causes of one file there are (.*?)\.\n", page, "the causes of links in docs/FORMAT.md")
+    counts.same("cause of a link", "docs/FORMAT.md", truth.link_causes, set(re.findall(r"`([\w-]+)`", said)))
     for column, table in enumerate((truth.names, truth.gnu_names)):
         for row, names in table.items():
             cells = one(rf"^\| {row} \| (.*?) \|$", page, f"{row} of docs/FORMAT.md").split(" |")

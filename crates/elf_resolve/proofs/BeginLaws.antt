@@ -2,7 +2,7 @@
 use Rattle.std.proofs.Common.{◌≡◌, ℕ, zero, suc, ◌<◌, Bool, true, false, List, [], ◌∷◌, ◌++◌, append_assoc, get_or, length, take, refl, sym, ap, subst, ◌∙◌, arith}
 use Rattle.std.specs.Prelude.{◌==◌, if◌then◌else◌, Option, None, Some}
 use Rattle.std.proofs.lemmas.List.{append-nil}
-use Rattle.elf_model.specs.LinkInputs.{IndexSymbol, InputFile, LinkInputs, Linking, OpenArchive, again_at, archive_again, archive_opened, file_row, group_settled, input_again, input_taken, inputs_again, inputs_taken, members_taken, opened_at, rounds_made, untaken_in, whole_row, with_object}
+use Rattle.elf_model.specs.LinkInputs.{IndexSymbol, InputFile, LinkInputs, Linking, OpenArchive, again_at, archive_again, archive_opened, group_settled, input_again, input_taken, inputs_again, inputs_taken, members_taken, opened_at, rounds_made, untaken_in, whole_row, with_object}
 use Rattle.elf_model.specs.LinkInputs.InputFile.{ObjectFile, SearchedFile, WholeFile, MissingFile}
 use Rattle.elf_model.specs.LinkInputs.LinkInputs.{NoInputs, Input, Group}
 use Rattle.elf_model.specs.LinkObjects.{LinkObject}

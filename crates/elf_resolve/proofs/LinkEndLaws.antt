@@ -1,9 +1,8 @@
 -- Where a link ends that is refused.
 use Rattle.std.proofs.Common.{◌≡◌, ℕ, List, [], ◌∷◌, ◌++◌, length, take, refl, sym, ap, subst, ◌∙◌, inl, inr}
-use Rattle.std.specs.Prelude.{Option, None, Some, Result, Ok, Err}
+use Rattle.std.specs.Prelude.{Option, Some, Result, Ok, Err}
 use Rattle.std.specs.List.{slice_get}
 use Rattle.elf_model.specs.LinkArchives.{LinkFiles, row_refusal}
-use Rattle.elf_model.specs.LinkInputs.{Linking}
 use Rattle.elf_model.specs.declared.link_states.LinkRow.{LinkRow}
 use Rattle.elf_model.specs.declared.link_states.LinkRowKind.{LinkRowKind}
 use Rattle.elf_resolve.specs.EndsAtRefusal.{EndsAtRefusal, EndsLink, HasBadScript, LeavesRows, NoneRefused, RefusedLast, StopsLink}

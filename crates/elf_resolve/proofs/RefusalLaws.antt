@@ -2,7 +2,7 @@
 use Rattle.std.proofs.Common.{◌≡◌, ℕ, ◌+◌, ◌<◌, ◌≤◌, ◌^◌, Bool, true, false, List, [], ◌∷◌, ◌++◌, get_or, length, append_assoc, refl, sym, ap, subst, ◌∙◌, ◌⊎◌, inl, inr, arith, leb}
 use Rattle.std.specs.Prelude.{Option, None, Some, Result, Ok, Err}
 use Rattle.std.proofs.lemmas.Bool.Decides.{leb_tells}
-use Rattle.elf_model.specs.LinkArchives.{LinkFiles, LinkMember, archive_as, archive_index, archive_input, files_as_inputs, input_at, input_of, link_member_name, link_members, member_refusal, members_refusal, no_member, object_input, or_object, refusal_of, refused_after_name, row_refusal, searched_by}
+use Rattle.elf_model.specs.LinkArchives.{LinkFiles, archive_as, archive_index, archive_input, files_as_inputs, input_at, input_of, link_member_name, link_members, member_refusal, members_refusal, no_member, object_input, or_object, refusal_of, refused_after_name, row_refusal, searched_by}
 use Rattle.elf_model.specs.LinkInputs.{IndexSymbol, InputFile, Linking, file_row, input_taken}
 use Rattle.elf_model.specs.LinkObjects.{LinkObject}
 use Rattle.elf_model.specs.LinkSymbols.{object_of}

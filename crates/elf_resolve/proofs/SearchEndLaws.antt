@@ -1,20 +1,19 @@
 -- Where a search of an archive ends, as a resolver has it.
-use Rattle.std.proofs.Common.{◌≡◌, ℕ, ◌<◌, List, [], ◌∷◌, ◌++◌, length, append_assoc, refl, sym, ap, subst, ◌∙◌, ◌⊎◌, inl, inr, arith}
-use Rattle.std.specs.Prelude.{Option, None, Some, Result, Ok, Err}
+use Rattle.std.proofs.Common.{◌≡◌, ℕ, ◌<◌, List, [], ◌∷◌, ◌++◌, length, sym, ap, subst, ◌∙◌, ◌⊎◌, inl, inr, arith}
+use Rattle.std.specs.Prelude.{Option, Some, Result, Ok, Err}
 use Rattle.std.proofs.lemmas.List.{length-map}
-use Rattle.elf_archive.specs.Members.{extent_of_names}
 use Rattle.elf_model.specs.Archive.{FileRange}
-use Rattle.elf_model.specs.LinkArchives.{LinkFiles, link_members, row_refusal}
+use Rattle.elf_model.specs.LinkArchives.{LinkFiles, link_members}
 use Rattle.elf_model.specs.declared.link_states.LinkRow.{LinkRow}
-use Rattle.elf_resolve.specs.EndsAtRefusal.{MovesRow, NoneRefused, StopsLink}
-use Rattle.elf_resolve.specs.LinkMembers.{KnownMembers, TakesMember, whole_file_of}
-use Rattle.elf_resolve.specs.SearchStops.{AddedMembers, AddsMembers, EndsSearch, IsFaultOfMember, KeepsFault, KeepsLimit, MovesMember, StoppedAtMember, StopsSearch, StopsWith, bytes_known, refusal_in}
+use Rattle.elf_resolve.specs.EndsAtRefusal.{NoneRefused, StopsLink}
+use Rattle.elf_resolve.specs.LinkMembers.{KnownMembers, whole_file_of}
+use Rattle.elf_resolve.specs.SearchStops.{AddedMembers, AddsMembers, EndsSearch, IsFaultOfMember, KeepsFault, KeepsLimit, StoppedAtMember, StopsWith, bytes_known, refusal_in}
 use Rattle.elf_resolve.specs.Taken.{IsLinkFault, header_of}
 use Rattle.elf_resolve.specs.declared.link_faults.LinkFault.{LinkFault}
 use Rattle.elf_resolve.specs.declared.table.LinkStop.{LinkStop}
 use Rattle.elf_resolve.specs.declared.table.LinkStop.TheVariants.{Full, TooManyRows, Unreadable}
 use Rattle.elf_source.specs.Source.{RangeParent}
-use Rattle.elf_resolve.proofs.RefusalLaws.{added_none_refused, limit_stops, member_moves, member_row_refusal, row_stops}
+use Rattle.elf_resolve.proofs.RefusalLaws.{added_none_refused, member_moves, member_row_refusal, row_stops}
 
 -- a file is still the one that was known
 pub file_still : (known now : Option (List ℕ)) (file other : List ℕ) → bytes_known now ≡ bytes_known known → known ≡ Some file → now ≡ Some other → other ≡ file

@@ -1,13 +1,13 @@
 -- What a search adds to rows, and where it stops: one entry and one pass after another.
 use Rattle.std.proofs.Common.{◌≡◌, ℕ, zero, suc, ◌<◌, Bool, true, false, List, [], ◌∷◌, ◌++◌, get_or, length, take, append_assoc, refl, sym, ap, subst, ◌∙◌, inl, inr, arith}
-use Rattle.std.specs.Prelude.{Option, None, Some, Result, Ok, Err}
+use Rattle.std.specs.Prelude.{Option, None, Some}
 use Rattle.std.proofs.lemmas.List.{append-nil}
 use Rattle.elf_model.specs.LinkPasses.{ArchiveMembers, ArchivePass, LinkArchive, archive_searched, asks_for, entry_visited, index_passed, is_taken, member_row, member_taken}
 use Rattle.elf_model.specs.declared.link_states.IndexEntry.{IndexEntry}
 use Rattle.elf_model.specs.declared.link_states.LinkRefusal.{LinkRefusal}
 use Rattle.elf_model.specs.declared.link_states.LinkRow.{LinkRow}
 use Rattle.elf_resolve.specs.Passing.{PassedTo, searched_archive}
-use Rattle.elf_resolve.specs.SearchStops.{AddedMembers, AddsMembers, AreTakenMembers, StoppedAtMember, StopsSearch}
+use Rattle.elf_resolve.specs.SearchStops.{AddedMembers, AreTakenMembers, StoppedAtMember, StopsSearch}
 use Rattle.elf_resolve.specs.declared.table.LinkStop.{LinkStop}
 use Rattle.elf_resolve.specs.declared.table.LinkStop.TheVariants.{Full, TooManyRows, Unreadable}
 use Rattle.elf_resolve.specs.declared.passes.ArchiveInput.{ArchiveInput}

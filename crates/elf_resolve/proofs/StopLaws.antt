@@ -3,23 +3,19 @@ use Rattle.std.proofs.Common.{◌≡◌, ◌≢◌, ℕ, ◌+◌, Bool, true, fa
 use Rattle.std.specs.Prelude.{IfErr, if◌then◌else◌, Option, None, Some, Result, Ok, Err, option_map}
 use Rattle.std.specs.List.{slice_get}
 use Rattle.std.proofs.lemmas.Bool.Decides.{eqb_tells}
-use Rattle.elf_model.specs.Archive.{bytes_in}
-use Rattle.elf_model.specs.LinkArchives.{LinkFiles, LinkMember, archive_index, archive_input, files_as_inputs, link_members, member_bytes, members_as_objects, members_refusal, or_empty, refusal_of, row_refusal, whole_members}
-use Rattle.elf_model.specs.LinkInputs.{Linking, archive_again, archive_opened, file_row, index_entered, input_again, input_taken, members_taken, opened_at, whole_row, with_object, with_row}
+use Rattle.elf_model.specs.LinkArchives.{LinkFiles, archive_input, files_as_inputs, link_members, members_as_objects, members_refusal, refusal_of, row_refusal, whole_members}
+use Rattle.elf_model.specs.LinkInputs.{Linking, archive_again, archive_opened, file_row, index_entered, input_taken, members_taken, opened_at, with_row}
 use Rattle.elf_model.specs.LinkSymbols.{object_of}
 use Rattle.elf_model.specs.declared.link_states.IndexEntry.{IndexEntry}
-use Rattle.elf_model.specs.declared.link_states.LinkRefusal.{LinkRefusal}
 use Rattle.elf_model.specs.declared.link_states.LinkRow.{LinkRow}
 use Rattle.elf_model.specs.declared.link_states.LinkRowKind.TheVariants.{Archive, Missing, Object}
 use Rattle.elf_resolve.specs.EndsAtRefusal.{IsFaultOfIndex, LeavesRows, NoneRefused, StopsLink}
 use Rattle.elf_resolve.specs.KeyTables.{KeyList}
-use Rattle.elf_resolve.specs.LinkMembers.{TakesMember}
 use Rattle.elf_resolve.specs.LinkPlaces.{IsLinkAt, input_made, is_new_input, is_new_state}
 use Rattle.elf_resolve.specs.OpenedArchives.{IsOpenedArchive, archive_of_input}
 use Rattle.elf_resolve.specs.Plans.{AreDistinctSteps}
 use Rattle.elf_resolve.specs.Resolved.{linking_of, open_archive}
 use Rattle.elf_resolve.specs.ResolvedInputs.{AddedRowOf, IsArchiveAt, IsAtStep, IsLink, KeptArchive, OpenedAs}
-use Rattle.elf_resolve.specs.SearchStops.{IsFaultOfMember}
 use Rattle.elf_resolve.specs.Taken.{IsLinkFault, ReadsIndex, TakesObject}
 use Rattle.elf_resolve.specs.declared.archives.OpenedArchive.{OpenedArchive}
 use Rattle.elf_resolve.specs.declared.link_faults.LinkFault.{LinkFault}
@@ -28,7 +24,7 @@ use Rattle.elf_resolve.specs.declared.link_files.LinkStep.TheVariants as step
 use Rattle.elf_resolve.specs.declared.resolver.InputState.TheVariants as state
 use Rattle.elf_resolve.specs.declared.resolver.Resolver.{Resolver}
 use Rattle.elf_source.specs.Source.{SourceState}
-use Rattle.elf_resolve.proofs.BeginLaws.{Begins, begins_as, begins_then, groups_end_begin, inputs_made_begin, members_begin}
+use Rattle.elf_resolve.proofs.BeginLaws.{Begins, begins_as, begins_then, groups_end_begin, inputs_made_begin}
 use Rattle.elf_resolve.proofs.LinkFaultLaws.{fault_of_any, fault_of_part}
 use Rattle.elf_resolve.proofs.OpenedLaws.{input_found, opened_as}
 use Rattle.elf_resolve.proofs.PlaceLaws.{place_takes}

@@ -2,7 +2,7 @@
 use Rattle.std.proofs.Common.{◌≡◌, ℕ, zero, suc, ◌+◌, ◌-◌, ◌<◌, ◌≤◌, Bool, List, [], ◌∷◌, ◌++◌, add-one, drop, drop-cons, get_or, length, length-append, refl, sym, ap, subst, ◌∙◌, ◌⊎◌, inl, inr, arith}
 use Rattle.std.specs.Prelude.{SomeIff, Option, None, Some, Result, Ok, Err}
 use Rattle.std.specs.List.{slice_get}
-use Rattle.elf_model.specs.LinkArchives.{LinkFiles, LinkMember, link_members, member_refusal, members_as_objects, no_member, row_refusal, whole_members}
+use Rattle.elf_model.specs.LinkArchives.{LinkFiles, LinkMember, link_members, members_as_objects, no_member, whole_members}
 use Rattle.elf_model.specs.LinkInputs.{Linking, archive_again, members_taken, whole_row}
 use Rattle.elf_model.specs.LinkPasses.{archive_searched}
 use Rattle.elf_model.specs.declared.link_states.LinkRow.{LinkRow}
@@ -22,7 +22,7 @@ use Rattle.elf_resolve.specs.declared.link_faults.LinkFault.TheVariants.{Refused
 use Rattle.elf_resolve.specs.declared.resolver.Resolver.{Resolver}
 use Rattle.elf_resolve.specs.declared.table.LinkStop.{LinkStop}
 use Rattle.elf_model.specs.declared.link_states.LinkCause.TheVariants as cause
-use Rattle.elf_resolve.proofs.BeginLaws.{Begins, begins_as, begins_same, begins_then, members_begin}
+use Rattle.elf_resolve.proofs.BeginLaws.{Begins, begins_as, begins_same, members_begin}
 use Rattle.elf_resolve.proofs.OpenedLaws.{found_opened}
 use Rattle.elf_resolve.proofs.RefusalLaws.{added_none_refused, by_headers, limit_stops, member_row_refusal, none_more}
 use Rattle.elf_resolve.proofs.SearchEndLaws.{member_stops, search_stops}

@@ -10,7 +10,6 @@ use Rattle.elf_resolve.specs.SearchStops.{MovesMember}
 use Rattle.elf_resolve.specs.Taken.{IsLimit, IsLinkFault}
 use Rattle.elf_resolve.specs.declared.link_faults.LinkFault.{LinkFault}
 use Rattle.elf_resolve.specs.declared.link_faults.LinkFault.TheVariants.{Refused}
-use Rattle.elf_resolve.specs.declared.link_files.InputKind.{InputKind}
 use Rattle.elf_resolve.specs.declared.link_files.InputKind.TheVariants.{BadScript}
 use Rattle.elf_resolve.specs.declared.link_files.LinkInput.{LinkInput}
 use Rattle.elf_resolve.specs.declared.link_files.LinkPlan.{LinkPlan}
