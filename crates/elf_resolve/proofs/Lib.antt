@@ -50,6 +50,7 @@ pub mod LinkedSymbolLaws
 pub mod PlaceLaws
 pub mod OpenedLaws
 pub mod ListRoomLaws
+pub mod InputLaws
 pub mod ResolvedLaws
 pub mod TakenMemberLaws
 pub mod TakenLaws

@@ -29,7 +29,8 @@ use Rattle.elf_resolve.proofs.LinkFaultLaws.{fault_of_any, fault_of_part}
 use Rattle.elf_resolve.proofs.OpenedLaws.{input_found, opened_as}
 use Rattle.elf_resolve.proofs.PlaceLaws.{place_takes}
 use Rattle.elf_resolve.proofs.RefusalLaws.{archive_at, file_refusal, file_stops, index_refusal, limit_stops, members_refused, missing_row_refusal, none_more, object_row_refusal, refused_rows, stops_within, whole_refusal}
-use Rattle.elf_resolve.proofs.ResolvedLaws.{first_archive, first_link, input_searched, input_whole, opened_rows}
+use Rattle.elf_resolve.proofs.InputLaws.{input_searched, input_whole}
+use Rattle.elf_resolve.proofs.ResolvedLaws.{first_archive, first_link, opened_rows}
 use Rattle.elf_resolve.proofs.TakenLaws.{again_searched}
 
 -- what is left is that of a larger link

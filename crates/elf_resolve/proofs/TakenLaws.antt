@@ -31,7 +31,8 @@ use Rattle.elf_resolve.specs.declared.resolver.InputState.TheVariants as state
 use Rattle.elf_resolve.specs.declared.resolver.Resolver.{Resolver}
 use Rattle.elf_resolve.proofs.ListRoomLaws.{limits_same, room_still}
 use Rattle.elf_resolve.proofs.OpenedLaws.{input_found, opened_as}
-use Rattle.elf_resolve.proofs.ResolvedLaws.{input_missing, input_object, link_still, linking_by, set_here, set_there}
+use Rattle.elf_resolve.proofs.InputLaws.{input_missing, input_object, set_here, set_there}
+use Rattle.elf_resolve.proofs.ResolvedLaws.{link_still, linking_by}
 use Rattle.elf_resolve.proofs.TakenMemberLaws.{on_ok_then}
 
 -- AN INPUT IS REACHED
