@@ -49,6 +49,7 @@ pub mod LinkedSymbolLaws
 pub mod PlaceLaws
 pub mod OpenedLaws
 pub mod ResolvedLaws
+pub mod ReadBudgetLaws
 pub mod TakenMemberLaws
 pub mod TakenLaws
 pub mod StepLaws

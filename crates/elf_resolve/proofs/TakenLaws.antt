@@ -212,19 +212,18 @@ archive_known files known index input is at =
     let has : (bytes : List ℕ) × (known index ≡ Some bytes) = subst (λ k. IsKnownFile k (known index)) at is.is_known in
     (has.0, has.1, is.file ∙ ap (λ k. file_of_kind k (known index)) at ∙ has.1)
 
-pub read_makes : (files : LinkFiles) (old opened took new : Resolver) (index : ℕ) (result : Result (Unit {0}) LinkFault) → opened ≡ old → new ≡ record took { left = new.left }
+pub read_makes : (files : LinkFiles) (old opened took new : Resolver) (index : ℕ) (result : Result (Unit {0}) LinkFault) → opened ≡ record old { budget = opened.budget } → new ≡ record took { budget = new.budget }
     → OnOk result (TookInput files opened took index (input_taken (linking_of opened) index (files_as_inputs files index)))
     → OnOk result (TookInput files old new index (input_taken (linking_of old) index (files_as_inputs files index)))
 read_makes files old opened took new index result same left holds =
-    let here = subst (λ (r : Resolver). OnOk result (TookInput files r took index (input_taken (linking_of r) index (files_as_inputs files index)))) same holds in
-    on_ok_then (TookInput files old took index (input_taken (linking_of old) index (files_as_inputs files index))) (TookInput files old new index (input_taken (linking_of old) index (files_as_inputs files index))) result (λ done. record {
-      makes = ap (λ (r : Resolver). linking_of r) left ∙ done.makes;
+    on_ok_then (TookInput files opened took index (input_taken (linking_of opened) index (files_as_inputs files index))) (TookInput files old new index (input_taken (linking_of old) index (files_as_inputs files index))) result (λ done. record {
+      makes = ap (λ (r : Resolver). linking_of r) left ∙ done.makes ∙ ap (λ (r : Resolver). input_taken (linking_of r) index (files_as_inputs files index)) same;
       is_link = link_still files took new done.is_link (ap (λ (r : Resolver). r.room.headers) left) (ap (λ (r : Resolver). r.libraries) left) (ap (λ (r : Resolver). r.states.items) left) (ap (λ (r : Resolver). r.tables) left)
           (ap (λ (r : Resolver). length r.taken.items) left);
-      groups = ap (λ (r : Resolver). r.groups) left ∙ done.groups;
+      groups = ap (λ (r : Resolver). r.groups) left ∙ done.groups ∙ ap (λ (r : Resolver). r.groups) same;
       reached = ap (λ (r : Resolver). is_new_input r.states.items index) left ∙ done.reached;
-      others = λ j differ. ap (λ (r : Resolver). is_new_input r.states.items j) left ∙ done.others j differ;
-    }) here
+      others = λ j differ. ap (λ (r : Resolver). is_new_input r.states.items j) left ∙ done.others j differ ∙ ap (λ (r : Resolver). is_new_input r.states.items j) same;
+    }) holds
 
 pub found_as_own : (archives : List OpenedArchive) (i : ℕ) (a : OpenedArchive) → archive_of_input archives i ≡ Some a → archive_of_input archives a.input ≡ Some a
 found_as_own archives i a found = ap (λ n. archive_of_input archives n) (input_found archives i a found) ∙ found

@@ -10,6 +10,7 @@ ghost use Rattle.elf_resolve.specs.LinkMembers.{file_of_range};
 ghost use Rattle.elf_resolve.specs.OpenedArchives.{HasMembers, SameOutside, archive_in, archive_of_input};
 ghost use Rattle.elf_resolve.specs.Passing.{TookObject, pass_of};
 ghost use Rattle.elf_resolve.specs.Ranges.{IsRangeOf};
+ghost use Rattle.elf_resolve.specs.ReadBudgets.{KeepsToBudget};
 ghost use Rattle.elf_resolve.specs.Resolved.{elements_in, linking_of, open_archive};
 ghost use Rattle.elf_resolve.specs.ResolvedInputs.{EntersIndex, IsArchiveAt, IsLink, KeepsArchives, KeptArchive, OpenedAs, TookInput, TookMembers};
 ghost use Rattle.elf_resolve.specs.Taken.{header_of};
@@ -38,10 +39,12 @@ impl Resolver<'_> {
         is_whole: bool,
         input: u32,
     ) -> Result<(), LinkFault>
-        ensures { (files : LinkFiles) (file : List ℕ) → IsLink files self.old →
+        ensures takes { (files : LinkFiles) (file : List ℕ) → IsLink files self.old →
             IsArchiveAt files file self.old src.old.seen is_whole input →
             OnOk result (TookInput files self.old self.new input
             (input_taken (linking_of self.old) input (files_as_inputs files input))) }
+        ensures most { src.new.most ≡ src.old.most }
+        ensures budget { self.new.budget ≡ self.old.budget }
     {
         let archive = self.open_archive(src, is_whole, input)?;
         if is_whole {
@@ -63,9 +66,11 @@ impl Resolver<'_> {
         input: u32,
     ) -> Result<OpenedArchive, LinkFault>
         ensures below { src.new.seen.whole ≡ src.old.seen.whole }
+        ensures most { src.new.most ≡ src.old.most }
         ensures opens { (file : List ℕ) → src.old.seen.file ≡ Some file →
             length self.old.taken.items ≡ length self.old.tables.members.items →
             IfOk result (OpenedAs file is_whole input self.old self.new) }
+        ensures budget { self.new.budget ≡ self.old.budget }
     {
         let row = self.add_row(LinkRowKind::Archive, input)?;
         let first = self.tables.members.len();
@@ -107,11 +112,13 @@ impl Resolver<'_> {
         first: usize,
     ) -> Result<(), LinkFault>
         ensures below { src.new.seen.whole ≡ src.old.seen.whole }
+        ensures most { src.new.most ≡ src.old.most }
         ensures keeps { KeepsArchives self.old self.new }
         ensures enters { (file : List ℕ) → src.old.seen.file ≡ Some file →
             drop first self.old.tables.members.items ≡ map header_of (link_members file).members →
             first ≤ length self.old.tables.members.items → members_refusal file ≡ None →
             OnOk result (EntersIndex is_whole file self.old self.new) }
+        ensures budget { self.new.budget ≡ self.old.budget }
     {
         if is_whole {
             return Ok(());
@@ -126,7 +133,8 @@ impl Resolver<'_> {
     /// # Errors
     /// There is no room for it.
     fn keep_archive(&mut self, archive: OpenedArchive) -> Result<(), LinkFault>
-        ensures { OnOk result (KeptArchive self.old self.new archive) }
+        ensures keeps { OnOk result (KeptArchive self.old self.new archive) }
+        ensures budget { self.new.budget ≡ self.old.budget }
     {
         let index = self.tables.archives.len();
         self.set_state(archive.input, InputState::Archive(index));
@@ -154,6 +162,7 @@ impl Resolver<'_> {
             OnOk result (TookMembers self.old self.new (archive_again (linking_of self.old)
             (open_archive self.old.tables.entries.items self.old.taken.items a)
             (members_as_objects file (link_members file).members all.headers))) }
+        ensures spends { KeepsToBudget self.old.budget self.new.budget }
     {
         let Some(archive) = element_at(&self.tables.archives, archive) else {
             return Ok(());
@@ -173,12 +182,14 @@ impl Resolver<'_> {
         src: &mut Counted<RangeSource<S>>,
         archive: OpenedArchive,
     ) -> Result<(), LinkFault>
-        ensures { (files : LinkFiles) (file : List ℕ) → IsLink files self.old →
+        ensures searches { (files : LinkFiles) (file : List ℕ) → IsLink files self.old →
             archive_of_input self.old.tables.archives.items archive.input ≡ Some archive →
             files.file archive.input ≡ Some file → file_of_range src.old.seen ≡ Some file →
             OnOk result (TookMembers self.old self.new (archive_again (linking_of self.old)
             (open_archive self.old.tables.entries.items self.old.taken.items archive)
             (members_as_objects file (link_members file).members files.headers))) }
+        ensures most { src.new.most ≡ src.old.most }
+        ensures budget { self.new.budget ≡ self.old.budget }
     {
         let found = search_members(
             &mut self.link,
@@ -205,7 +216,8 @@ impl Resolver<'_> {
         fault: Option<LinkFault>,
         asked: Option<u32>,
     ) -> Result<(), LinkFault>
-        ensures { IsErr result }
+        ensures fails { IsErr result }
+        ensures budget { self.new.budget ≡ self.old.budget }
     {
         self.row = None;
         if matches!(stop, LinkStop::TooManyRows) {
@@ -232,11 +244,13 @@ impl Resolver<'_> {
         src: &mut Counted<RangeSource<S>>,
         archive: OpenedArchive,
     ) -> Result<(), LinkFault>
-        ensures { (file : List ℕ) → file_of_range src.old.seen ≡ Some file →
+        ensures takes { (file : List ℕ) → file_of_range src.old.seen ≡ Some file →
             HasMembers file self.old.tables.members.items archive →
             OnOk result (TookMembers self.old self.new (members_taken archive.input archive.row
             (linking_of self.old)
             (whole_members file 0 (link_members file).members self.old.room.headers))) }
+        ensures most { src.new.most ≡ src.old.most }
+        ensures budget { self.new.budget ≡ self.old.budget }
     {
         let count = range_of(&self.tables.members, archive.members).len();
         let Ok(count) = u32::try_from(count) else {
@@ -259,11 +273,13 @@ impl Resolver<'_> {
         member: u32,
     ) -> Result<(), LinkFault>
         ensures below { src.new.seen.whole ≡ src.old.seen.whole }
+        ensures most { src.new.most ≡ src.old.most }
         ensures takes { (file : List ℕ) (m : LinkMember) → file_of_range src.old.seen ≡ Some file →
             HasMembers file self.old.tables.members.items archive →
             slice_get (link_members file).members member ≡ Some m →
             OnOk result (TookMembers self.old self.new (members_taken archive.input archive.row
             (linking_of self.old) (whole_members file member (m ∷ []) self.old.room.headers))) }
+        ensures budget { self.new.budget ≡ self.old.budget }
     {
         let members = range_of(&self.tables.members, archive.members);
         let is_taken = is_file(src, members, member)?;
@@ -284,12 +300,14 @@ impl Resolver<'_> {
         member: u32,
     ) -> Result<(), LinkFault>
         ensures below { src.new.seen.whole ≡ src.old.seen.whole }
+        ensures most { src.new.most ≡ src.old.most }
         ensures takes { (file : List ℕ) (m : LinkMember) → file_of_range src.old.seen ≡ Some file →
             HasMembers file self.old.tables.members.items archive →
             slice_get (link_members file).members member ≡ Some m →
             OnOk result (TookMembers self.old self.new (with_object (linking_of self.old)
             (whole_row archive.input archive.row member)
             (or_empty (object_of (bytes_in file m.extent) self.old.room.headers)))) }
+        ensures budget { self.new.budget ≡ self.old.budget }
     {
         let row = self.link.rows.add(member_row(archive, member));
         self.row = row;

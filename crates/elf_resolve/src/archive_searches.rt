@@ -58,6 +58,7 @@ pub(crate) fn take_member<S: Source>(
     keys: &mut KeyTable<'_>,
 ) -> Result<(), LinkFault>
     ensures below { src.new.seen.whole ≡ src.old.seen.whole }
+    ensures most { src.new.most ≡ src.old.most }
     ensures headers { room.new.headers ≡ room.old.headers }
     ensures takes { (file : List ℕ) → file_of_range src.old.seen ≡ Some file →
         HasMembers file tables.now.members.items place.archive →
@@ -95,6 +96,7 @@ pub(crate) fn search_members<S: Source>(
     src: &mut Counted<RangeSource<S>>,
     archive: OpenedArchive,
 ) -> SearchEnd
+    ensures most { src.new.most ≡ src.old.most }
     ensures headers { room.new.headers ≡ room.old.headers }
     ensures outside { IsRangeOf archive.members.0 archive.members.1 (length taken.old) →
         SameOutside taken.old taken.new archive.members }

@@ -77,6 +77,7 @@ impl ArchiveTables {
         src: &mut Counted<S>,
     ) -> Result<Option<FileRange>, LinkFault>
         ensures keeps { KeepsSource src.old.seen src.new.seen }
+        ensures most { src.new.most ≡ src.old.most }
         ensures archives { self.new.archives ≡ self.old.archives }
         ensures entries { self.new.entries ≡ self.old.entries }
         ensures walks { (file : List ℕ) → src.old.seen.file ≡ Some file →
@@ -96,6 +97,7 @@ impl ArchiveTables {
         src: &mut Counted<S>,
     ) -> Result<Option<FileRange>, LinkFault>
         ensures keeps { KeepsSource src.old.seen src.new.seen }
+        ensures most { src.new.most ≡ src.old.most }
         ensures archives { self.new.archives ≡ self.old.archives }
         ensures entries { self.new.entries ≡ self.old.entries }
         ensures passes { (file : List ℕ) → src.old.seen.file ≡ Some file → length file < 2 ^ 63 →
@@ -171,6 +173,7 @@ pub(crate) fn read_header_at<S: Source>(
 ) -> Result<FileRange, LinkFault>
     ensures lies { IfOk result (λ extent. LiesAfterHeader at extent.at extent.size) }
     ensures keeps { KeepsSource src.old.seen src.new.seen }
+    ensures most { src.new.most ≡ src.old.most }
     ensures reads { (file : List ℕ) → src.old.seen.file ≡ Some file →
         ReadsMemberHeader file at header.new result }
 {

@@ -4,10 +4,11 @@ ghost use Rattle.std.specs.List.{slice_get};
 ghost use Rattle.std.proofs.Math.ListN.{set};
 ghost use Rattle.elf_model.specs.LinkArchives.{LinkFiles, files_as_inputs};
 ghost use Rattle.elf_model.specs.LinkInputs.{LinkInputs, Linking, file_row, input_taken, linked, with_arguments};
-ghost use Rattle.elf_source.specs.Prelude.{IsWholeRange};
+ghost use Rattle.elf_source.specs.Prelude.{IsWholeRange, counted, left};
 ghost use Rattle.elf_resolve.specs.LinkMembers.{file_of_range};
 ghost use Rattle.elf_resolve.specs.LinkPlaces.{IsLinkAt, input_made, is_new_input};
 ghost use Rattle.elf_resolve.specs.Plans.{IsStaticPlan, planned_files, plan_steps};
+ghost use Rattle.elf_resolve.specs.ReadBudgets.{OpensWithin, KeepsToBudget};
 ghost use Rattle.elf_resolve.specs.Resolved.{linking_of};
 ghost use Rattle.elf_resolve.specs.ResolvedInputs.{AddedRowOf, AskedNames, IsAtStep, IsFresh, IsLink, IsPlanned, OpenedGroup, TookAll, TookInput};
 
@@ -36,6 +37,7 @@ impl Resolver<'_> {
             slice_get self.old.states.items index ≡ Some InputState.New →
             OnOk result (TookInput all self.old self.new index
             (input_taken (linking_of self.old) index (files_as_inputs all index))) }
+        ensures spends { KeepsToBudget self.old.budget self.new.budget }
     {
         self.set_state(index, InputState::Done);
         self.take_kind(files, input, index)
@@ -45,6 +47,7 @@ impl Resolver<'_> {
     ///
     /// # Errors
     /// The first fault of the input.
+    #[tactic(auto, using(crate::proofs::ReadBudgetLaws::spends_same))]
     fn take_kind<F: InputFiles>(
         &mut self,
         files: &mut F,
@@ -57,6 +60,7 @@ impl Resolver<'_> {
             slice_get self.old.states.items index ≡ Some InputState.Done →
             OnOk result (TookInput all self.old self.new index
             (input_taken (linking_of self.old) index (files_as_inputs all index))) }
+        ensures spends { KeepsToBudget self.old.budget self.new.budget }
     {
         match input.kind {
             InputKind::Missing => {
@@ -90,6 +94,7 @@ impl Resolver<'_> {
             slice_get self.old.states.items index ≡ Some InputState.Done →
             OnOk result (TookInput all self.old self.new index
             (input_taken (linking_of self.old) index (files_as_inputs all index))) }
+        ensures spends { KeepsToBudget self.old.budget self.new.budget }
     {
         let mut src = self.open(files, index)?;
         let taken = self.take_file(files, &mut src, input, index);
@@ -97,7 +102,8 @@ impl Resolver<'_> {
         taken
     }
 
-    /// Opens the file of an input, of which no more is read than is left of the budget.
+    /// Opens the file of an input, of which no more is read than is left of the budget. That is not
+    /// the link's until the file is closed.
     ///
     /// # Errors
     /// It cannot be opened.
@@ -106,7 +112,8 @@ impl Resolver<'_> {
         files: &mut F,
         input: u32,
     ) -> Result<Counted<RangeSource<F::InputSource>>, LinkFault>
-        ensures same { self.new ≡ self.old }
+        ensures same { self.new ≡ record self.old { budget = self.new.budget } }
+        ensures within { OpensWithin self.old.budget self.new.budget result }
         ensures file { F.file files.new ≡ F.file files.old }
         ensures opens { (file : List ℕ) → F.file files.old input ≡ Some file → IfOk result
             (λ src. (src.seen.file ≡ Some file) × (file_of_range src.seen ≡ Some file)) }
@@ -114,7 +121,7 @@ impl Resolver<'_> {
         match files.open(input) {
             Ok(source) => {
                 let mut src = Counted::new(RangeSource::new(source));
-                src.limit(self.left);
+                src.limit(self.budget.take_left());
                 Ok(src)
             }
             Err(OpenFault::Open) => Err(LinkFault::Open),
@@ -122,11 +129,15 @@ impl Resolver<'_> {
         }
     }
 
-    /// Subtracts from the budget what was requested of a file.
+    /// Subtracts from the budget what was requested of a file, which is not read any more.
     pub(crate) fn close<S: Source>(&mut self, src: &Counted<S>)
-        ensures { self.new ≡ record self.old { left = self.new.left } }
+        ensures same { self.new ≡ record self.old { budget = self.new.budget } }
+        ensures pays { self.new.budget ≡ record {
+            left = left src.now;
+            asked = counted self.old.budget.asked src.now.asked;
+        } }
     {
-        self.left = src.left();
+        self.budget.put_back(src.left(), src.asked());
     }
 
     /// Takes the file of an input.
@@ -140,12 +151,15 @@ impl Resolver<'_> {
         input: LinkInput,
         index: u32,
     ) -> Result<(), LinkFault>
-        ensures { (all : LinkFiles) (file : List ℕ) → IsPlanned all (F.file files.now) index input →
-            IsLink all self.old → src.old.seen.file ≡ Some file →
+        ensures takes { (all : LinkFiles) (file : List ℕ) →
+            IsPlanned all (F.file files.now) index input → IsLink all self.old →
+            src.old.seen.file ≡ Some file →
             file_of_range src.old.seen ≡ Some file → all.file index ≡ Some file →
             slice_get self.old.states.items index ≡ Some InputState.Done →
             OnOk result (TookInput all self.old self.new index
             (input_taken (linking_of self.old) index (files_as_inputs all index))) }
+        ensures most { src.new.most ≡ src.old.most }
+        ensures budget { self.new.budget ≡ self.old.budget }
     {
         match input.kind {
             InputKind::Archive => self.take_archive(src, input.is_whole, index),
@@ -166,7 +180,10 @@ impl Resolver<'_> {
         src: &mut Counted<RangeSource<F::InputSource>>,
         input: LinkInput,
         index: u32,
-    ) -> Result<(), LinkFault> {
+    ) -> Result<(), LinkFault>
+        ensures most { src.new.most ≡ src.old.most }
+        ensures budget { self.new.budget ≡ self.old.budget }
+    {
         let row = self.add_row(LinkRowKind::Shared, index)?;
         self.take_library(
             src,
@@ -184,12 +201,14 @@ impl Resolver<'_> {
     /// # Errors
     /// The first fault of the file.
     fn take_one<S: Source>(&mut self, src: &mut Counted<S>, index: u32) -> Result<(), LinkFault>
-        ensures { (all : LinkFiles) (file : List ℕ) → IsLink all self.old →
+        ensures takes { (all : LinkFiles) (file : List ℕ) → IsLink all self.old →
             src.old.seen.file ≡ Some file → all.file index ≡ Some file →
             all.is_archive index ≡ false →
             slice_get self.old.states.items index ≡ Some InputState.Done →
             OnOk result (TookInput all self.old self.new index
             (input_taken (linking_of self.old) index (files_as_inputs all index))) }
+        ensures most { src.new.most ≡ src.old.most }
+        ensures budget { self.new.budget ≡ self.old.budget }
     {
         let row = self.add_row(LinkRowKind::Object, index)?;
         take_object(src, &mut self.room, &mut self.link.keys, row)

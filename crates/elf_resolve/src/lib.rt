@@ -39,6 +39,7 @@ mod object;
 mod object_symbols;
 mod passes;
 mod problem_rows;
+mod read_budget;
 mod resolver;
 mod room;
 mod row_lines;

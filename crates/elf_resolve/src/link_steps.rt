@@ -8,6 +8,7 @@ ghost use Rattle.elf_source.specs.Prelude.{IsWholeRange};
 ghost use Rattle.elf_resolve.specs.LinkMembers.{file_of_range};
 ghost use Rattle.elf_resolve.specs.LinkPlaces.{IsLinkAt, input_made, is_new_input};
 ghost use Rattle.elf_resolve.specs.Plans.{IsStaticPlan, planned_files, plan_steps};
+ghost use Rattle.elf_resolve.specs.ReadBudgets.{KeepsToBudget};
 ghost use Rattle.elf_resolve.specs.Resolved.{linking_of};
 ghost use Rattle.elf_resolve.specs.ResolvedInputs.{AddedRowOf, AskedNames, IsAtStep, IsFresh, IsLink, IsPlanned, OpenedGroup, TookAll, TookInput};
 
@@ -27,9 +28,10 @@ impl Resolver<'_> {
         files: &mut F,
         plan: &LinkPlan,
     ) -> Result<(), LinkFault>
-        ensures { (headers : ℕ) (whole : Linking) → IsStaticPlan (F.file files.old) plan.now →
+        ensures takes { (headers : ℕ) (whole : Linking) → IsStaticPlan (F.file files.old) plan.now →
             let all = planned_files (F.file files.old) plan.now headers in
             IsAtStep all plan.now whole self.old 0 → OnOk result (TookAll all self.new whole) }
+        ensures spends { KeepsToBudget self.old.budget self.new.budget }
     {
         let count = plan.steps.len();
         let mut place = 0;
@@ -48,6 +50,7 @@ impl Resolver<'_> {
     ///
     /// # Errors
     /// The first fault of an input.
+    #[tactic(auto, using(crate::proofs::ReadBudgetLaws::spends_same))]
     fn take_step<F: InputFiles>(
         &mut self,
         files: &mut F,
@@ -61,6 +64,7 @@ impl Resolver<'_> {
             let all = planned_files (F.file files.old) plan.now headers in
             IsAtStep all plan.now whole self.old place →
             IfOk result (IsAtStep all plan.now whole self.new) }
+        ensures spends { KeepsToBudget self.old.budget self.new.budget }
     {
         let Some(step) = element_at(&plan.steps, place) else {
             return Err(LinkFault::Read);
@@ -84,7 +88,8 @@ impl Resolver<'_> {
     /// # Errors
     /// There is no room for it.
     fn open_group(&mut self, first: usize) -> Result<(), LinkFault>
-        ensures { OnOk result (OpenedGroup self.old self.new first) }
+        ensures opens { OnOk result (OpenedGroup self.old self.new first) }
+        ensures budget { self.new.budget ≡ self.old.budget }
     {
         let asked = self.link.keys.asked();
         if self.groups.push(OpenGroup { first, asked }).is_err() {
@@ -99,10 +104,11 @@ impl Resolver<'_> {
     /// # Errors
     /// There is no room for another round.
     fn close_group(&mut self, next: usize) -> Result<usize, LinkFault>
-        ensures { (files : LinkFiles) (plan : LinkPlan) (whole : Linking) (place : ℕ) →
+        ensures steps { (files : LinkFiles) (plan : LinkPlan) (whole : Linking) (place : ℕ) →
             next ≡ place + 1 → slice_get plan.steps.items place ≡ Some LinkStep.Close →
             IsAtStep files plan whole self.old place →
             IfOk result (IsAtStep files plan whole self.new) }
+        ensures budget { self.new.budget ≡ self.old.budget }
     {
         let Some(group) = self.groups.pop() else {
             return Ok(next);
@@ -118,6 +124,7 @@ impl Resolver<'_> {
     ///
     /// # Errors
     /// The first fault of the input.
+    #[tactic(auto, using(crate::proofs::ReadBudgetLaws::spends_none))]
     fn visit<F: InputFiles>(
         &mut self,
         files: &mut F,
@@ -130,6 +137,7 @@ impl Resolver<'_> {
             IsLink all self.old → OnOk result (TookInput all self.old self.new input
             (input_made (is_new_input self.old.states.items input) (linking_of self.old) input
             (files_as_inputs all input))) }
+        ensures spends { KeepsToBudget self.old.budget self.new.budget }
     {
         let Some(known) = element_at(&plan.inputs, input as usize) else {
             return Err(LinkFault::Open);

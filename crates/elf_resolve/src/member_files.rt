@@ -22,6 +22,7 @@ pub(crate) fn is_file<S: Source>(
     member: u32,
 ) -> Result<bool, LinkFault>
     ensures whole { src.new.seen.whole ≡ src.old.seen.whole }
+    ensures most { src.new.most ≡ src.old.most }
     ensures tells { (file : List ℕ) → file_of_range src.old.seen ≡ Some file →
         members_refusal file ≡ None → members.now ≡ map header_of (link_members file).members →
         ReturnsFileMember file member result }

@@ -11,6 +11,7 @@ ghost use Rattle.elf_source.specs.Prelude.{KeepsSource};
 ghost use Rattle.elf_resolve.specs.LinkMembers.{KnownMembers, TakesMember, file_of_range, members_by_file, range_before};
 ghost use Rattle.elf_resolve.specs.ObjectNames.{FindsInObject, definition_at};
 ghost use Rattle.elf_resolve.specs.ObjectTables.{HoldsSymbols, HoldsTables};
+ghost use Rattle.elf_resolve.specs.ReadBudgets.{number_of_limit};
 ghost use Rattle.elf_resolve.specs.StringBuffers.{HoldsText};
 ghost use Rattle.elf_resolve.specs.Taken.{FindsDefinition, IsLimit, IsLinkFault, header_of};
 
@@ -83,6 +84,7 @@ impl<S: Source> MembersOfArchive<'_, S> {
         keys: &mut KeyTable<'_>,
     ) -> Result<(), LinkFault>
         ensures whole { self.new.src.now.seen.whole ≡ self.old.src.now.seen.whole }
+        ensures most { self.new.src.now.most ≡ self.old.src.now.most }
         ensures headers { self.new.room.now.headers ≡ self.old.room.now.headers }
         ensures archive { self.new.archive ≡ self.old.archive }
         ensures members { self.new.members.now ≡ self.old.members.now }
@@ -114,6 +116,7 @@ impl<S: Source> MembersOfArchive<'_, S> {
     /// Those of the member's header; it cannot be read, or there is no room for its tables.
     fn member_defines(&mut self, entry: IndexEntry, keys: &KeyTable<'_>) -> Result<bool, LinkFault>
         ensures whole { self.new.src.now.seen.whole ≡ self.old.src.now.seen.whole }
+        ensures most { self.new.src.now.most ≡ self.old.src.now.most }
         ensures headers { self.new.room.now.headers ≡ self.old.room.now.headers }
         ensures archive { self.new.archive ≡ self.old.archive }
         ensures members { self.new.members.now ≡ self.old.members.now }
@@ -147,6 +150,7 @@ fn narrow_to<S: Source>(
     extent: FileRange,
 ) -> Result<(), LinkFault>
     ensures whole { src.new.seen.whole ≡ src.old.seen.whole }
+    ensures most { src.new.most ≡ src.old.most }
     ensures narrows { (file : List ℕ) → file_of_range src.old.seen ≡ Some file →
         OnOk result (src.new.seen.file ≡ Some (slice file extent.at extent.size)) }
     ensures fails { (file : List ℕ) → file_of_range src.old.seen ≡ Some file →
@@ -167,7 +171,8 @@ impl<S: Source> ArchiveObjects for MembersOfArchive<'_, S> {
     ghost known = { λ s. KnownMembers s.src.now.seen.whole s.members.now
         (extent_of_names s.archive.names) };
 
-    ghost kept = { λ s. s.src.ghost_name ∷ s.room.ghost_name ∷ s.room.now.headers ∷ [] };
+    ghost kept = { λ s. s.src.ghost_name ∷ s.room.ghost_name ∷ s.room.now.headers
+        ∷ number_of_limit s.src.now.most ∷ [] };
 
     fn take<'a>(&mut self, member: u32, row: u32, keys: &mut KeyTable<'a>) -> Result<(), LinkStop> {
         match self.take_member(member, row, keys) {
@@ -203,6 +208,7 @@ fn defines<S: Source>(
     keys: &KeyTable<'_>,
 ) -> Result<bool, LinkFault>
     ensures keeps { KeepsSource src.old.seen src.new.seen }
+    ensures most { src.new.most ≡ src.old.most }
     ensures headers { room.new.headers ≡ room.old.headers }
     ensures names { room.new.names ≡ room.old.names }
     ensures finds { (file : List ℕ) → src.old.seen.file ≡ Some file →
@@ -249,6 +255,7 @@ fn find_definition<S: Source>(
     keys: &KeyTable<'_>,
 ) -> Result<bool, LinkFault>
     ensures keeps { KeepsSource src.old.seen src.new.seen }
+    ensures most { src.new.most ≡ src.old.most }
     ensures headers { room.new.headers ≡ room.old.headers }
     ensures names { room.new.names ≡ room.old.names }
     ensures finds { (file : List ℕ) → src.old.seen.file ≡ Some file →

@@ -1,5 +1,6 @@
 //! The shared libraries of a link, and which of them are needed.
 ghost use Rattle.std.specs.Prelude.{◌≡◌, [], length};
+ghost use Rattle.elf_resolve.specs.ReadBudgets.{KeepsToBudget};
 
 use crate::asked_libraries::{open_library, reopen_library};
 use crate::libraries::LinkLibrary;
@@ -43,7 +44,10 @@ impl Resolver<'_> {
         &mut self,
         src: &mut Counted<S>,
         library: NewLibrary<'_>,
-    ) -> Result<(), LinkFault> {
+    ) -> Result<(), LinkFault>
+        ensures most { src.new.most ≡ src.old.most }
+        ensures budget { self.new.budget ≡ self.old.budget }
+    {
         let keys = &mut self.link.keys;
         let end = open_library(src, &mut self.room, keys, &mut self.libraries, library)?;
         self.output.is_dynamic = true;
@@ -52,7 +56,9 @@ impl Resolver<'_> {
     }
 
     /// Sets the kind of a library's row, and what is done at its input once more.
-    fn end_library(&mut self, row: u32, input: u32, end: LibraryEnd) {
+    fn end_library(&mut self, row: u32, input: u32, end: LibraryEnd)
+        ensures budget { self.new.budget ≡ self.old.budget }
+    {
         match end {
             LibraryEnd::Same => {
                 self.set_kind(row, LinkRowKind::Same);
@@ -73,12 +79,14 @@ impl Resolver<'_> {
     ///
     /// # Errors
     /// It cannot be opened; the first fault of the library; there is no room for a key.
+    #[tactic(auto, using(crate::proofs::ReadBudgetLaws::spends_none, crate::proofs::ReadBudgetLaws::spends_same, crate::proofs::ReadBudgetLaws::spends_after))]
     pub(crate) fn ask_again<F: InputFiles>(
         &mut self,
         files: &mut F,
         library: usize,
     ) -> Result<(), LinkFault>
-        ensures { F.file files.new ≡ F.file files.old }
+        ensures file { F.file files.new ≡ F.file files.old }
+        ensures spends { KeepsToBudget self.old.budget self.new.budget }
     {
         let Some(known) = self.libraries.get(library) else {
             return Ok(());
@@ -97,13 +105,15 @@ impl Resolver<'_> {
     ///
     /// # Errors
     /// It cannot be opened; the first fault of the library; there is no room for a key.
+    #[tactic(auto, using(crate::proofs::ReadBudgetLaws::spends_same))]
     fn read_again<F: InputFiles>(
         &mut self,
         files: &mut F,
         library: usize,
         known: LinkLibrary,
     ) -> Result<LibraryEnd, LinkFault>
-        ensures { F.file files.new ≡ F.file files.old }
+        ensures file { F.file files.new ≡ F.file files.old }
+        ensures spends { KeepsToBudget self.old.budget self.new.budget }
     {
         let mut src = self.open(files, known.input)?;
         let keys = &mut self.link.keys;
@@ -123,8 +133,10 @@ impl Resolver<'_> {
     ///
     /// # Errors
     /// One cannot be opened; the first fault of one; there is no room.
+    #[tactic(auto, using(crate::proofs::ReadBudgetLaws::spends_none))]
     pub(crate) fn offer_libraries<F: InputFiles>(&mut self, files: &mut F) -> Result<(), LinkFault>
-        ensures { self.old.libraries.libraries.items ≡ [] → self.new ≡ self.old }
+        ensures same { self.old.libraries.libraries.items ≡ [] → self.new ≡ self.old }
+        ensures spends { KeepsToBudget self.old.budget self.new.budget }
     {
         let count = self.libraries.len();
         if count == 0 {
@@ -140,11 +152,14 @@ impl Resolver<'_> {
     ///
     /// # Errors
     /// It cannot be opened; the first fault of the library; there is no room.
+    #[tactic(auto, using(crate::proofs::ReadBudgetLaws::spends_none, crate::proofs::ReadBudgetLaws::spends_same))]
     fn offer_library<F: InputFiles>(
         &mut self,
         files: &mut F,
         library: usize,
-    ) -> Result<(), LinkFault> {
+    ) -> Result<(), LinkFault>
+        ensures spends { KeepsToBudget self.old.budget self.new.budget }
+    {
         let Some(known) = self.libraries.get(library) else {
             return Ok(());
         };

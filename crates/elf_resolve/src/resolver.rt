@@ -8,6 +8,7 @@ ghost use Rattle.elf_source.specs.Prelude.{IsWholeRange};
 ghost use Rattle.elf_resolve.specs.LinkMembers.{file_of_range};
 ghost use Rattle.elf_resolve.specs.LinkPlaces.{IsLinkAt, input_made, is_new_input};
 ghost use Rattle.elf_resolve.specs.Plans.{IsStaticPlan, planned_files, plan_steps};
+ghost use Rattle.elf_resolve.specs.ReadBudgets.{KeepsToBudget};
 ghost use Rattle.elf_resolve.specs.Resolved.{linking_of};
 ghost use Rattle.elf_resolve.specs.ResolvedInputs.{AddedRowOf, AskedNames, IsAtStep, IsFresh, IsLink, IsPlanned, OpenedGroup, TookAll, TookInput};
 
@@ -19,6 +20,7 @@ use crate::link_files::{InputFiles, LinkPlan};
 use crate::link_memory::{KeyLists, RowMarks, StepStates, new_link};
 use crate::linker_names::OutputKind;
 use crate::passes::Link;
+use crate::read_budget::ReadBudget;
 use crate::room::{LinkCaps, LinkRoom};
 use crate::spare_keys::SpareKeys;
 use bumpalo::Bump;
@@ -83,7 +85,7 @@ pub struct Resolver<'a> {
     pub(crate) kinds: Vec<Option<LinkRowKind>>,
     pub(crate) states: Vec<InputState>,
     pub(crate) groups: Vec<OpenGroup>,
-    pub(crate) left: Option<u64>,
+    pub(crate) budget: ReadBudget,
     pub(crate) row: Option<u32>,
 }
 
@@ -100,7 +102,9 @@ impl<'a> Resolver<'a> {
         steps: usize,
         memory: &'a Bump,
     ) -> Result<Resolver<'a>, AllocError>
-        ensures { IfOk result IsFresh }
+        ensures fresh { IfOk result IsFresh }
+        ensures budget { IfOk result (λ link. link.budget
+            ≡ record { left = caps.now.budget; asked = 0 }) }
     {
         let link = new_link(alloc, hasher, caps, memory)?;
         let KeyLists {
@@ -132,7 +136,7 @@ impl<'a> Resolver<'a> {
             kinds,
             states,
             groups,
-            left: caps.budget,
+            budget: ReadBudget::new(caps.budget),
             row: None,
         })
     }
@@ -143,7 +147,8 @@ impl<'a> Resolver<'a> {
     /// There is no room for it.
     #[tactic(auto, unfolding(elf_model::specs::LinkKeys::symbol_taken))]
     pub fn ask(&mut self, name: &[u8]) -> Result<(), LinkFault>
-        ensures { OnOk result (AskedNames self.old self.new (name.now ∷ [])) }
+        ensures asks { OnOk result (AskedNames self.old self.new (name.now ∷ [])) }
+        ensures budget { self.new.budget ≡ self.old.budget }
     {
         match self.link.keys.use_name(name, ASKED, None) {
             Ok(()) => Ok(()),
@@ -161,11 +166,12 @@ impl<'a> Resolver<'a> {
         asked: &[&str],
         plan: &LinkPlan,
     ) -> Result<(), LinkFault>
-        ensures { (inputs : LinkInputs) → IsFresh self.old →
+        ensures links { (inputs : LinkInputs) → IsFresh self.old →
             IsStaticPlan (F.file files.old) plan.now → plan_steps inputs ≡ plan.now.steps.items →
             self.new.end ≡ None → OnOk result (linking_of self.new ≡ linked
             (files_as_inputs (planned_files (F.file files.old) plan.now
             self.old.room.headers)) (map (λ name. name.now) asked.now) inputs) }
+        ensures spends { KeepsToBudget self.old.budget self.new.budget }
     {
         let taken = self.take_all(files, asked, plan);
         self.list_by_keys();
@@ -175,7 +181,8 @@ impl<'a> Resolver<'a> {
     /// Lists by their keys what the lines of keys name, and marks the rows that those of faults
     /// name.
     fn list_by_keys(&mut self)
-        ensures { linking_of self.new ≡ linking_of self.old }
+        ensures same { linking_of self.new ≡ linking_of self.old }
+        ensures budget { self.new.budget ≡ self.old.budget }
     {
         self.chain_entries();
         self.chain_further();
@@ -188,6 +195,7 @@ impl<'a> Resolver<'a> {
     /// A file cannot be opened or read.
     fn end_with(&mut self, taken: Result<(), LinkFault>) -> Result<(), LinkFault>
         ensures same { linking_of self.new ≡ linking_of self.old }
+        ensures budget { self.new.budget ≡ self.old.budget }
         ensures ends { self.new.end ≡ None → OnOk result (taken ≡ Ok tt) }
     {
         match taken {
@@ -211,11 +219,12 @@ impl<'a> Resolver<'a> {
         asked: &[&str],
         plan: &LinkPlan,
     ) -> Result<(), LinkFault>
-        ensures { (inputs : LinkInputs) → IsFresh self.old →
+        ensures links { (inputs : LinkInputs) → IsFresh self.old →
             IsStaticPlan (F.file files.old) plan.now → plan_steps inputs ≡ plan.now.steps.items →
             OnOk result (linking_of self.new ≡ linked
             (files_as_inputs (planned_files (F.file files.old) plan.now
             self.old.room.headers)) (map (λ name. name.now) asked.now) inputs) }
+        ensures spends { KeepsToBudget self.old.budget self.new.budget }
     {
         self.take_inputs(files, asked, plan)?;
         self.offer_libraries(files)
@@ -231,11 +240,12 @@ impl<'a> Resolver<'a> {
         asked: &[&str],
         plan: &LinkPlan,
     ) -> Result<(), LinkFault>
-        ensures { (inputs : LinkInputs) → IsFresh self.old →
+        ensures takes { (inputs : LinkInputs) → IsFresh self.old →
             IsStaticPlan (F.file files.old) plan.now → plan_steps inputs ≡ plan.now.steps.items →
             let all = planned_files (F.file files.old) plan.now self.old.room.headers in
             OnOk result (TookAll all self.new
             (linked (files_as_inputs all) (map (λ name. name.now) asked.now) inputs)) }
+        ensures spends { KeepsToBudget self.old.budget self.new.budget }
     {
         self.ask_all(asked)?;
         self.take_steps(files, plan)
@@ -246,7 +256,9 @@ impl<'a> Resolver<'a> {
     /// # Errors
     /// There is no room for one.
     fn ask_all(&mut self, asked: &[&str]) -> Result<(), LinkFault>
-        ensures { OnOk result (AskedNames self.old self.new (map (λ name. name.now) asked.now)) }
+        ensures asks { OnOk result
+            (AskedNames self.old self.new (map (λ name. name.now) asked.now)) }
+        ensures budget { self.new.budget ≡ self.old.budget }
     {
         for name in asked {
             self.ask(name.as_bytes())?;
@@ -269,7 +281,8 @@ impl<'a> Resolver<'a> {
     /// # Errors
     /// `TooManyRows` at 0 if there is no room for it.
     pub(crate) fn add_row(&mut self, kind: LinkRowKind, input: u32) -> Result<u32, LinkFault>
-        ensures { IfOk result (AddedRowOf self.old self.new (file_row kind input)) }
+        ensures adds { IfOk result (AddedRowOf self.old self.new (file_row kind input)) }
+        ensures budget { self.new.budget ≡ self.old.budget }
     {
         let row = LinkRow {
             kind,
@@ -288,7 +301,9 @@ impl<'a> Resolver<'a> {
     }
 
     /// Sets the kind of a row.
-    pub(crate) fn set_kind(&mut self, row: u32, kind: LinkRowKind) {
+    pub(crate) fn set_kind(&mut self, row: u32, kind: LinkRowKind)
+        ensures budget { self.new.budget ≡ self.old.budget }
+    {
         if let Some(place) = self.kinds.get_mut(row as usize) {
             *place = Some(kind);
         }

@@ -7,6 +7,7 @@ use Rattle.elf_resolve.proofs.archives.ArchiveTables.pass_members.Goals as goal
 pub loop-at-init : goal.loop-at-init
 loop-at-init g c = record {
   keeps = search rules;
+  limit = refl;
   archives = refl;
   entries = refl;
   passed = λ file held small. passes_begin file c.args.self.now.members.items;
@@ -15,6 +16,7 @@ loop-at-init g c = record {
 pub loop-at-preserved : goal.loop-at-preserved
 loop-at-preserved g c = record {
   keeps = search rules;
+  limit = c.read_header_at.ensures.most ∙ c.loop-at.invariant.limit;
   archives = search rules;
   entries = search rules;
   passed = λ file held small.

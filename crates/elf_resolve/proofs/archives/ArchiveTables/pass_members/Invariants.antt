@@ -8,6 +8,7 @@ use Rattle.elf_resolve.proofs.archives.ArchiveTables.pass_members.Given as goal
 abbrev pub invariant-loop-at : goal.invariant-loop-at
 invariant-loop-at g l = record {
   keeps : KeepsSource l.initial.src.seen l.src.seen;
+  limit : l.src.most ≡ l.initial.src.most;
   archives : l.self.archives ≡ l.initial.self.archives;
   entries : l.self.entries ≡ l.initial.self.entries;
   passed : (file : List ℕ) → l.initial.src.seen.file ≡ Some file → length file < 2 ^ 63 → PassedSoFar file l.initial.self.members.items l.self.members.items l.at (extent_of_names l.names);

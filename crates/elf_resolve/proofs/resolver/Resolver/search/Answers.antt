@@ -4,8 +4,8 @@ use Rattle.std.proofs.lemmas.List.{with_items_is}
 use Rattle.elf_resolve.proofs.TakenMemberLaws.{on_ok, search_makes}
 use Rattle.elf_resolve.proofs.resolver.Resolver.search.Goals as goal
 
-pub returns-in-Ok : goal.returns-in-Ok
-returns-in-Ok g c = λ files file is found file_is known.
+pub returns-in-Ok-clause-searches : goal.returns-in-Ok-clause-searches
+returns-in-Ok-clause-searches g c = λ files file is found file_is known.
     let after = c.search_members-found.new.taken in
     let count : length after ≡ c.args.self.now.taken.len = omega (arith, c.search_members-found.auto.taken, c.deref_mut.ensures.len) in
     let new = record c.args.self.now { link = c.search_members-found.new.link; taken = with_items c.args.self.now.taken after; room = c.search_members-found.new.room } in

@@ -5,7 +5,7 @@ use Rattle.elf_resolve.proofs.resolver.Resolver.take_kind.Goals as goal
 
 pub returns-in_ok-add_row-in-Missing-clause-takes : goal.returns-in_ok-add_row-in-Missing-clause-takes
 returns-in_ok-add_row-in-Missing-clause-takes g c = λ all planned is done.
-    missing_taken all c.args.self.now c.add_row.new.self c.args.index c.in_ok-add_row-in-Missing.field-0 is done c.in_ok-add_row-in-Missing.ensures
+    missing_taken all c.args.self.now c.add_row.new.self c.args.index c.in_ok-add_row-in-Missing.field-0 is done c.in_ok-add_row-in-Missing.ensures.adds
     (planned.file ∙ ap (λ k. file_of_kind k (g.F.InputFiles.file c.args.files.now c.args.index)) c.in-Missing.is)
 
 pub returns-in-Object-clause-takes : goal.returns-in-Object-clause-takes

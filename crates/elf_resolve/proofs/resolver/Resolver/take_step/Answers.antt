@@ -9,12 +9,12 @@ use Rattle.elf_resolve.proofs.resolver.Resolver.take_step.Goals as goal
 pub returns-in_ok-open_group-in-Open-clause-steps : goal.returns-in_ok-open_group-in-Open-clause-steps
 returns-in_ok-open_group-in-Open-clause-steps g c = λ headers whole static next_is at.
     let here : slice_get c.args.plan.now.steps.items c.args.place ≡ Some step.Open = cc (c.element_at.ensures, c.deref.ensures.value, c.in-Some.is, c.in-Open.is) in
-    step_opens (planned_files (g.F.InputFiles.file c.args.files.now) c.args.plan.now headers) c.args.plan.now whole c.args.self.now c.open_group.new.self c.args.place c.args.next next_is here c.in_ok-open_group-in-Open.ensures at
+    step_opens (planned_files (g.F.InputFiles.file c.args.files.now) c.args.plan.now headers) c.args.plan.now whole c.args.self.now c.open_group.new.self c.args.place c.args.next next_is here c.in_ok-open_group-in-Open.ensures.opens at
 
 pub returns-in-Close-clause-steps : goal.returns-in-Close-clause-steps
 returns-in-Close-clause-steps g c = λ headers whole static next_is at.
     let here : slice_get c.args.plan.now.steps.items c.args.place ≡ Some step.Close = cc (c.element_at.ensures, c.deref.ensures.value, c.in-Some.is, c.in-Close.is) in
-    c.close_group.ensures (planned_files (g.F.InputFiles.file c.args.files.now) c.args.plan.now headers) c.args.plan.now whole c.args.place next_is here at
+    c.close_group.ensures.steps (planned_files (g.F.InputFiles.file c.args.files.now) c.args.plan.now headers) c.args.plan.now whole c.args.place next_is here at
 
 pub returns-in_ok-visit-in-Input-clause-steps : goal.returns-in_ok-visit-in-Input-clause-steps
 returns-in_ok-visit-in-Input-clause-steps g c = λ headers whole static next_is at.

@@ -16,10 +16,12 @@ loop-number-preserved g c = (
       let at = slice_get-get_or ms c.loop-number.number no_member below in
       let taken = c.in_ok-take_if_file.ensures.takes file (get_or ms c.loop-number.number no_member) (ap whole_file_of c.loop-number.invariant.0 ∙ known) (still_has file _ _ _ _ before.0 has) at in
       whole_more file c.args.self.now c.loop-number.self c.take_if_file.new.self c.args.archive.input c.args.archive.row c.loop-number.number _ before.0 before.1 below taken,
+  c.take_if_file.ensures.most ∙ c.loop-number.invariant.2,
+  c.take_if_file.ensures.budget ∙ c.loop-number.invariant.3,
 )
 
-pub returns : goal.returns
-returns g c = λ file known has.
+pub returns-clause-takes : goal.returns-clause-takes
+returns-clause-takes g c = λ file known has.
     let before = c.loop-number.invariant.1 file known has in
     let are = range_has file c.args.self.now.tables.members.items c.deref.result.now c.range_of-count.result.now c.args.archive c.deref.ensures.value has c.range_of-count.ensures in
     let above : length (link_members file).members ≤ c.loop-number.number = omega (arith, members_count file _ _ are, c.in-Ok.ensures, c.loop-number-test.false) in

@@ -16,3 +16,5 @@ invariant-loop-number g l =
     → TookMembers l.initial.self l.self (linking_of l.self)
     × (members_taken l.archive.input l.archive.row (linking_of l.self) (whole_members file l.number (drop l.number (link_members file).members) l.initial.self.room.headers)
     ≡ members_taken l.archive.input l.archive.row (linking_of l.initial.self) (whole_members file 0 (link_members file).members l.initial.self.room.headers)))
+    × (l.src.most ≡ l.initial.src.most)
+    × (l.self.budget ≡ l.initial.self.budget)
