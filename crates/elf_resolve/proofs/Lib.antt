@@ -52,3 +52,5 @@ pub mod ResolvedLaws
 pub mod TakenMemberLaws
 pub mod TakenLaws
 pub mod StepLaws
+pub mod LibraryListLaws
+pub mod LibraryEntryLaws

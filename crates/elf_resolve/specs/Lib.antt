@@ -39,3 +39,13 @@ pub mod Plans
 pub mod LinkPlaces
 pub mod OpenedArchives
 pub mod ResolvedInputs
+pub mod LibrarySymbols
+pub mod VersionTexts
+pub mod KeyMarks
+pub mod LibraryNeeds
+pub mod AppendedTexts
+pub mod LibraryLists
+pub mod HeldLibraries
+pub mod CountedNames
+pub mod LibraryEntries
+pub mod LibraryTables

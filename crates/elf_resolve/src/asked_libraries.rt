@@ -1,7 +1,8 @@
 //! A shared library that is read: its name, and whether it is needed.
 use crate::libraries::{LibraryList, LinkLibrary};
 use crate::library::{DynamicRows, LibraryTables, read_library};
-use crate::library_symbols::{library_need, take_library_symbols};
+use crate::library_needs::library_need;
+use crate::library_symbols::take_library_symbols;
 use crate::link_faults::LinkFault;
 use crate::needed_libraries::{LibraryEnd, NewLibrary};
 use crate::object::linked_header;

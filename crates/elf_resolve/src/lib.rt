@@ -22,6 +22,7 @@ mod key_marks;
 mod key_states;
 mod libraries;
 mod library;
+mod library_needs;
 mod library_symbols;
 mod lines;
 mod link_faults;

@@ -1,4 +1,17 @@
 //! A shared library of a link: its symbols with their versions, and what its dynamic entries say.
+ghost use Rattle.std.specs.Prelude.{◌≡◌, ◌+◌, ◌*◌, ◌/◌, ◌<◌, ◌^◌, IfOk, List, ℕ, Ok, Some};
+ghost use Rattle.elf_model.specs.Dynamic.{dynamic_at};
+ghost use Rattle.elf_model.specs.HeaderTables.{file_sections, first_typed};
+ghost use Rattle.elf_model.specs.Tables.{strings_of};
+ghost use Rattle.elf_source.specs.Prelude.{KeepsSource};
+ghost use Rattle.elf_table.specs.Load.{HoldsSectionHeaders};
+ghost use Rattle.elf_resolve.specs.LibraryEntries.{LibraryNames, names_at, names_of_entries, version_word};
+ghost use Rattle.elf_resolve.specs.LibraryLists.{NamedLibraries, needed_by_last};
+ghost use Rattle.elf_resolve.specs.LibraryTables.{AddsAfter, AddsNames, FindsEntry, FindsOwn, FindsWord, HoldsDynamic, HoldsVersions, IsEntry, ReadsDynamic, ReadsVersions};
+ghost use Rattle.elf_resolve.specs.HeldLibraries.{HoldsList};
+ghost use Rattle.elf_resolve.specs.ObjectSymbols.{HoldsSome};
+ghost use Rattle.elf_resolve.specs.StringBuffers.{KeptTexts};
+
 use crate::libraries::LibraryList;
 use crate::link_faults::{LinkFault, file_refused};
 use crate::object::{SymbolRows, read_first_symbols, read_names};
@@ -87,7 +100,13 @@ fn read_dynamic<S: Source>(
     src: &mut Counted<S>,
     view: &SectionView<'_>,
     strings: &mut StringBuffer,
-) -> Result<Option<DynamicRows>, LinkFault> {
+) -> Result<Option<DynamicRows>, LinkFault>
+    ensures keeps { KeepsSource src.old.seen src.new.seen }
+    ensures stays { KeptTexts strings.old strings.new }
+    ensures reads { (file : List ℕ) → src.old.seen.file ≡ Some file →
+        HoldsSectionHeaders file view.now.loaded view.now.store.now →
+        ReadsDynamic file strings.new.bytes (first_typed (file_sections file) SHT_DYNAMIC) result }
+{
     let Some(section) = view.first(SHT_DYNAMIC) else {
         return Ok(None);
     };
@@ -115,7 +134,14 @@ fn read_version_rows<S: Source>(
     src: &mut Counted<S>,
     view: &SectionView<'_>,
     strings: &mut StringBuffer,
-) -> Result<Option<VersionRows>, LinkFault> {
+) -> Result<Option<VersionRows>, LinkFault>
+    ensures keeps { KeepsSource src.old.seen src.new.seen }
+    ensures stays { KeptTexts strings.old strings.new }
+    ensures reads { (file : List ℕ) → src.old.seen.file ≡ Some file →
+        HoldsSectionHeaders file view.now.loaded view.now.store.now →
+        ReadsVersions file strings.new.bytes (first_typed (file_sections file) SHT_GNU_VERSYM)
+        result }
+{
     let Some(section) = view.first(SHT_GNU_VERSYM) else {
         return Ok(None);
     };
@@ -189,7 +215,10 @@ impl LibraryTables {
 
 impl DynamicRows {
     /// Returns the tag and the value of an entry, if it is not past the end.
-    fn entry(&self, strings: &StringBuffer, index: usize) -> Option<(u64, u64)> {
+    fn entry(&self, strings: &StringBuffer, index: usize) -> Option<(u64, u64)>
+        ensures { (file : List ℕ) (at : ℕ) → HoldsDynamic file strings.now.bytes at self.now →
+            FindsEntry file self.now.at (self.now.rows.size / 16) index result }
+    {
         let start = index.saturating_mul(DYNAMIC_BYTES);
         let row = part_of(strings.bytes(self.rows), start, DYNAMIC_BYTES);
         if row.len() < DYNAMIC_BYTES {
@@ -203,13 +232,17 @@ impl DynamicRows {
     }
 
     /// Returns the file offset of an entry.
-    fn place(&self, index: usize) -> u64 {
+    fn place(&self, index: usize) -> u64
+        ensures { self.now.at + 16 * index < 2 ^ 64 → result ≡ self.now.at + 16 * index }
+    {
         let start = index.saturating_mul(DYNAMIC_BYTES);
         self.at.saturating_add(start as u64)
     }
 
     /// Returns how many entries there can be.
-    fn count(&self) -> usize {
+    fn count(&self) -> usize
+        ensures { result ≡ self.now.rows.size / 16 }
+    {
         self.rows.size / DYNAMIC_BYTES
     }
 
@@ -217,20 +250,45 @@ impl DynamicRows {
     ///
     /// # Errors
     /// Those of a name, at its entry.
-    pub(crate) fn soname(&self, strings: &StringBuffer) -> Result<Option<HeldText>, LinkFault> {
-        let mut found = None;
+    pub(crate) fn soname(&self, strings: &StringBuffer) -> Result<Option<HeldText>, LinkFault>
+        ensures { (file : List ℕ) (at : ℕ) → HoldsDynamic file strings.now.bytes at self.now →
+            FindsOwn strings.now.bytes (names_of_entries file at) result }
+    {
+        let mut own = None;
         for index in 0..self.count() {
-            let Some((tag, value)) = self.entry(strings, index) else {
-                break;
+            let Some(entry) = self.entry(strings, index) else {
+                return Ok(own);
             };
-            if tag == DT_NEEDED || tag == DT_SONAME && found.is_none() {
-                let name = strings.name(self.strings, value, self.place(index))?;
-                if tag == DT_SONAME {
-                    found = Some(name);
-                }
-            }
+            own = self.own_after(strings, index, entry, own)?;
         }
-        Ok(found)
+        Ok(own)
+    }
+
+    /// Returns the library's own name after an entry of an index.
+    ///
+    /// # Errors
+    /// Those of a name, at its entry: the library's own, or one that it needs.
+    fn own_after(
+        &self,
+        strings: &StringBuffer,
+        index: usize,
+        entry: (u64, u64),
+        own: Option<HeldText>,
+    ) -> Result<Option<HeldText>, LinkFault>
+        ensures { (file : List ℕ) (at : ℕ) (names : LibraryNames) →
+            HoldsDynamic file strings.now.bytes at self.now →
+            IsEntry file self.now.at (self.now.rows.size / 16) index entry →
+            HoldsSome strings.now.bytes own names.own →
+            FindsOwn strings.now.bytes
+            (names_at file (strings_of file at) (dynamic_at self.now.at index) names) result }
+    {
+        let (tag, value) = entry;
+        let is_own = tag == DT_SONAME && own.is_none();
+        if tag != DT_NEEDED && !is_own {
+            return Ok(own);
+        }
+        let name = strings.name(self.strings, value, self.place(index))?;
+        if is_own { Ok(Some(name)) } else { Ok(own) }
     }
 
     /// Adds the names that the library needs, which is the last of a list.
@@ -241,18 +299,46 @@ impl DynamicRows {
         &self,
         strings: &StringBuffer,
         libraries: &mut LibraryList,
-    ) -> Result<(), LinkFault> {
+    ) -> Result<(), LinkFault>
+        ensures { (file : List ℕ) (at : ℕ) (names : LibraryNames) (known : NamedLibraries) →
+            HoldsDynamic file strings.now.bytes at self.now →
+            names_of_entries file at ≡ Ok names → HoldsList libraries.old known →
+            AddsNames known libraries.new names.needed result }
+    {
         for index in 0..self.count() {
-            let Some((tag, value)) = self.entry(strings, index) else {
-                break;
+            let Some(entry) = self.entry(strings, index) else {
+                return Ok(());
             };
-            if tag == DT_NEEDED {
-                let at = self.place(index);
-                let name = strings.name(self.strings, value, at)?;
-                libraries.add_needed(strings.bytes(name), at)?;
-            }
+            self.add_name(strings, index, entry, libraries)?;
         }
         Ok(())
+    }
+
+    /// Adds the name of an entry of an index, if it is one that the library needs.
+    ///
+    /// # Errors
+    /// That of the name, at its entry; there is no room for it.
+    fn add_name(
+        &self,
+        strings: &StringBuffer,
+        index: usize,
+        entry: (u64, u64),
+        libraries: &mut LibraryList,
+    ) -> Result<(), LinkFault>
+        ensures { (file : List ℕ) (at : ℕ) (names : LibraryNames) (known : NamedLibraries) →
+            HoldsDynamic file strings.now.bytes at self.now →
+            IsEntry file self.now.at (self.now.rows.size / 16) index entry →
+            HoldsList libraries.old (needed_by_last known names.needed) →
+            AddsAfter known libraries.new
+            (names_at file (strings_of file at) (dynamic_at self.now.at index) names) result }
+    {
+        let (tag, value) = entry;
+        if tag != DT_NEEDED {
+            return Ok(());
+        }
+        let at = self.place(index);
+        let name = strings.name(self.strings, value, at)?;
+        libraries.add_needed(strings.bytes(name), at)
     }
 }
 
@@ -261,7 +347,10 @@ impl VersionRows {
     ///
     /// # Errors
     /// `VersionCut` at the section's header if it has none for it.
-    pub(crate) fn index(&self, strings: &StringBuffer, symbol: u64) -> Result<u16, LinkFault> {
+    pub(crate) fn index(&self, strings: &StringBuffer, symbol: u64) -> Result<u16, LinkFault>
+        ensures { (file : List ℕ) (at : ℕ) → HoldsVersions file strings.now.bytes at self.now →
+            FindsWord (version_word file at symbol) result }
+    {
         let start = (symbol as usize).saturating_mul(INDEX_BYTES);
         let bytes = part_of(strings.bytes(self.rows), start, INDEX_BYTES);
         if bytes.len() < INDEX_BYTES {
@@ -271,7 +360,9 @@ impl VersionRows {
     }
 
     /// Returns the file offset of the version index of a symbol.
-    pub(crate) fn place(&self, symbol: u64) -> u64 {
+    pub(crate) fn place(&self, symbol: u64) -> u64
+        ensures { self.now.at + 2 * symbol < 2 ^ 64 → result ≡ self.now.at + 2 * symbol }
+    {
         self.at
             .saturating_add(symbol.saturating_mul(INDEX_BYTES as u64))
     }

@@ -1,4 +1,12 @@
 //! The symbols of a shared library.
+ghost use Rattle.std.specs.Prelude.{◌≡◌, List, ℕ, Option};
+ghost use Rattle.elf_record.specs.Sym.{IsSym};
+ghost use Rattle.elf_resolve.specs.LibraryNeeds.{NotesSymbol, key_of_default};
+ghost use Rattle.elf_resolve.specs.LibrarySymbols.{library_role, library_use, shared_kind};
+ghost use Rattle.elf_resolve.specs.ObjectSymbols.{HoldsSome};
+ghost use Rattle.elf_resolve.specs.StringBuffers.{HoldsText};
+ghost use Rattle.elf_resolve.specs.VersionTexts.{version_text};
+ghost use Rattle.elf_table.specs.Load.{HoldsSectionHeaders};
 
 use crate::key_marks::KeyMarks;
 use crate::library::{LibraryTables, VersionRows};
@@ -7,9 +15,7 @@ use crate::object_symbols::{global_in, is_function, is_lto_mark, symbol_record};
 use crate::string_buffer::{HeldText, NO_TEXT, StringBuffer};
 use crate::table::{KeyFault, KeyTable};
 use crate::version_names::{HIDDEN, VersionNames};
-use elf_model::{
-    KeyEntry, KeyState, LinkCause, SharedDefinition, SharedKind, SymbolRole, SymbolUse,
-};
+use elf_model::{KeyState, LinkCause, SharedDefinition, SharedKind, SymbolRole, SymbolUse};
 use elf_record::numbers::{SHN_ABS, SHN_LORESERVE, SHN_UNDEF, SHT_NOBITS, STB_WEAK};
 use elf_record::{Cause, Sym};
 use elf_table::SectionView;
@@ -28,31 +34,6 @@ pub(crate) struct LibrarySymbol {
     pub role: SymbolRole,
     /// Its file offset.
     pub at: u64,
-}
-
-/// Who needs a library, of which nothing is taken yet.
-#[derive(Clone, Copy)]
-pub(crate) struct LibraryNeed {
-    /// Whether an object does.
-    pub by_objects: bool,
-    /// Whether another library does.
-    pub by_libraries: bool,
-}
-
-/// Nothing needs the library.
-const NO_NEED: LibraryNeed = LibraryNeed {
-    by_objects: false,
-    by_libraries: false,
-};
-
-impl LibraryNeed {
-    /// Returns who needs the library by this or by another symbol.
-    fn joined(self, other: LibraryNeed) -> LibraryNeed {
-        LibraryNeed {
-            by_objects: self.by_objects || other.by_objects,
-            by_libraries: self.by_libraries || other.by_libraries,
-        }
-    }
 }
 
 /// Returns the symbol of an index that counts, if it does.
@@ -95,7 +76,11 @@ pub(crate) fn library_symbol(
 }
 
 /// Returns what a symbol of a shared library is to its keys.
-fn role_of(view: &SectionView<'_>, symbol: &Sym) -> SymbolRole {
+fn role_of(view: &SectionView<'_>, symbol: &Sym) -> SymbolRole
+    ensures { (file : List ℕ) (at : ℕ) → IsSym file at symbol.now →
+        HoldsSectionHeaders file view.now.loaded view.now.store.now →
+        result ≡ library_role file at }
+{
     let is_weak = symbol.binding() == STB_WEAK;
     if symbol.st_shndx != SHN_UNDEF {
         return SymbolRole::Shared(SharedDefinition {
@@ -110,7 +95,11 @@ fn role_of(view: &SectionView<'_>, symbol: &Sym) -> SymbolRole {
 }
 
 /// Returns what a definition of a shared library is.
-fn kind_of(view: &SectionView<'_>, symbol: &Sym) -> SharedKind {
+fn kind_of(view: &SectionView<'_>, symbol: &Sym) -> SharedKind
+    ensures { (file : List ℕ) (at : ℕ) → IsSym file at symbol.now →
+        HoldsSectionHeaders file view.now.loaded view.now.store.now →
+        result ≡ shared_kind file at }
+{
     if is_function(symbol) {
         return SharedKind::Function;
     }
@@ -163,7 +152,9 @@ fn versioned_names(
 
 /// Returns the name of the version of an index: among those that are needed for a reference, among
 /// those that are defined otherwise; a hidden definition without a version has an empty one.
-fn version_of(versions: &VersionNames, number: u16, is_reference: bool) -> Option<HeldText> {
+fn version_of(versions: &VersionNames, number: u16, is_reference: bool) -> Option<HeldText>
+    ensures { result ≡ version_text versions.now number is_reference }
+{
     if is_reference {
         return versions.needed(number);
     }
@@ -171,101 +162,6 @@ fn version_of(versions: &VersionNames, number: u16, is_reference: bool) -> Optio
         return Some(NO_TEXT);
     }
     versions.defined(number)
-}
-
-/// Returns whether definitions of a library make it needed.
-///
-/// # Errors
-/// The first fault of a symbol.
-pub(crate) fn library_need(
-    view: &SectionView<'_>,
-    tables: LibraryTables,
-    versions: &VersionNames,
-    strings: &mut StringBuffer,
-    keys: &KeyTable<'_>,
-    marks: &KeyMarks,
-) -> Result<LibraryNeed, LinkFault> {
-    let mut need = NO_NEED;
-    let used = strings.used();
-    let (first, count) = tables.symbol_range();
-    for index in first..count {
-        if let Some(symbol) = library_symbol(view, tables, versions, strings, index)? {
-            need = need.joined(symbol_need(&symbol, strings, keys, marks));
-        }
-        strings.forget_after(used);
-    }
-    Ok(need)
-}
-
-/// Returns whether a definition makes its library needed: not one whose name without the version is
-/// defined already.
-fn symbol_need(
-    symbol: &LibrarySymbol,
-    strings: &StringBuffer,
-    keys: &KeyTable<'_>,
-    marks: &KeyMarks,
-) -> LibraryNeed {
-    let SymbolRole::Shared(definition) = symbol.role else {
-        return NO_NEED;
-    };
-    let first = key_need(strings.bytes(symbol.name), definition, keys, marks);
-    let Some(default) = symbol.default else {
-        return first;
-    };
-    let default = strings.bytes(default);
-    if is_defined(keys, default) {
-        return NO_NEED;
-    }
-    first.joined(key_need(default, definition, keys, marks))
-}
-
-/// Returns `true` if a name is defined.
-fn is_defined(keys: &KeyTable<'_>, name: &[u8]) -> bool {
-    let Some(key) = keys.find(name) else {
-        return false;
-    };
-    matches!(
-        keys.entry(key).state,
-        KeyState::WeakDefined | KeyState::Defined | KeyState::Shared(_)
-    )
-}
-
-/// Returns who needs a definition of a name.
-fn key_need(
-    name: &[u8],
-    definition: SharedDefinition,
-    keys: &KeyTable<'_>,
-    marks: &KeyMarks,
-) -> LibraryNeed {
-    let Some(key) = keys.find(name) else {
-        return NO_NEED;
-    };
-    if !takes_definition(keys.entry(key), definition) {
-        return NO_NEED;
-    }
-    let mark = marks.get(key);
-    LibraryNeed {
-        by_objects: mark.is_strong,
-        by_libraries: mark.is_library_strong,
-    }
-}
-
-/// Returns `true` if a definition of a shared library replaces a key's state.
-fn takes_definition(entry: KeyEntry, definition: SharedDefinition) -> bool {
-    if entry.is_restricted {
-        return false;
-    }
-    match entry.state {
-        KeyState::New | KeyState::Weak | KeyState::Undefined => true,
-        KeyState::Common(_) => {
-            !definition.weak
-                && !matches!(
-                    definition.kind,
-                    SharedKind::Function | SharedKind::NoBits(_)
-                )
-        }
-        _ => false,
-    }
 }
 
 /// Takes the symbols of a shared library in order.
@@ -341,7 +237,14 @@ fn note_symbol(
     keys: &KeyTable<'_>,
     marks: &mut KeyMarks,
     row: u32,
-) {
+)
+    ensures { (is : List ℕ) (default_is : Option (List ℕ)) →
+        HoldsText strings.now.bytes symbol.now.name is →
+        HoldsSome strings.now.bytes symbol.now.default default_is →
+        NotesSymbol keys.now.keys row
+        (record { name = is; default_name = default_is; symbol = library_use symbol.now.role })
+        marks.old marks.new }
+{
     let Some(key) = keys.find(strings.bytes(symbol.name)) else {
         return;
     };
@@ -358,7 +261,11 @@ fn note_symbol(
 }
 
 /// Returns the key of the name of a symbol without its version, if that is the default one.
-fn default_key(symbol: &LibrarySymbol, strings: &StringBuffer, keys: &KeyTable<'_>) -> Option<u32> {
+fn default_key(symbol: &LibrarySymbol, strings: &StringBuffer, keys: &KeyTable<'_>) -> Option<u32>
+    ensures { (default_is : Option (List ℕ)) →
+        HoldsSome strings.now.bytes symbol.now.default default_is →
+        result ≡ key_of_default keys.now.keys default_is }
+{
     match symbol.default {
         Some(default) => keys.find(strings.bytes(default)),
         None => None,

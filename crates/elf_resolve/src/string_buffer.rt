@@ -3,6 +3,7 @@ ghost use Rattle.std.specs.Prelude.{◌≡◌, ◌+◌, ◌<◌, ◌≤◌, ◌=
 ghost use Rattle.elf_model.specs.Bytes.{slice};
 ghost use Rattle.elf_model.specs.LinkSymbols.{AT};
 ghost use Rattle.elf_source.specs.Prelude.{KeepsSource};
+ghost use Rattle.elf_resolve.specs.AppendedTexts.{AppendsText};
 ghost use Rattle.elf_resolve.specs.StringBuffers.{ExtendsBy, FindsText, HoldsText, JoinsTexts, KeptTexts, ReadsAll, ReadsText, SplitsName};
 
 use crate::link_faults::{LinkFault, file_refused, refused};
@@ -53,7 +54,16 @@ impl StringBuffer {
     pub(crate) fn new(alloc: Global, size: u32) -> Result<StringBuffer, AllocError>
         ensures { IfOk result (λ made. made ≡ record { bytes = []; most = size }) }
     {
-        let most = size as usize;
+        StringBuffer::with_room(alloc, size as usize)
+    }
+
+    /// Creates a buffer of at most `most` bytes.
+    ///
+    /// # Errors
+    /// Out of memory.
+    pub(crate) fn with_room(alloc: Global, most: usize) -> Result<StringBuffer, AllocError>
+        ensures { IfOk result (λ made. made ≡ record { bytes = []; most = most }) }
+    {
         let bytes = Vec::with_capacity(alloc, most)?;
         Ok(StringBuffer { bytes, most })
     }
@@ -133,6 +143,19 @@ impl StringBuffer {
             }),
             None => file_refused(at, Cause::NameUnended),
         }
+    }
+
+    /// Appends bytes, and returns the text, or `None` if there is no room for it: nothing changes.
+    pub(crate) fn append(&mut self, bytes: &[u8]) -> Option<HeldText>
+        ensures { AppendsText self.old self.new bytes.now result }
+    {
+        let start = self.bytes.len();
+        let size = bytes.len();
+        if size > self.most - start {
+            return None;
+        }
+        self.bytes.extend_from_slice(bytes).unwrap();
+        Some(HeldText { start, size })
     }
 
     /// Appends a name, `@` and a version, and returns the text.

@@ -1,5 +1,6 @@
 //! The names of the versions of a shared library, by their indexes.
-ghost use Rattle.std.specs.Prelude.{◌<◌, ◌≤◌, IfOk, length};
+ghost use Rattle.std.specs.Prelude.{◌≡◌, ◌<◌, ◌≤◌, IfOk, length};
+ghost use Rattle.elf_resolve.specs.VersionTexts.{text_of_number};
 
 use crate::link_faults::{LinkFault, file_refused};
 use crate::string_buffer::{HeldText, StringBuffer, part_of};
@@ -73,12 +74,16 @@ impl VersionNames {
     }
 
     /// Returns the name of a version that the library defines.
-    pub(crate) fn defined(&self, number: u16) -> Option<HeldText> {
+    pub(crate) fn defined(&self, number: u16) -> Option<HeldText>
+        ensures { result ≡ text_of_number self.now.defined.items number }
+    {
         name_in(&self.defined, number)
     }
 
     /// Returns the name of a version that the library needs.
-    pub(crate) fn needed(&self, number: u16) -> Option<HeldText> {
+    pub(crate) fn needed(&self, number: u16) -> Option<HeldText>
+        ensures { result ≡ text_of_number self.now.needed.items number }
+    {
         name_in(&self.needed, number)
     }
 
@@ -292,7 +297,9 @@ fn forget(names: &mut [Option<HeldText>]) {
 }
 
 /// Returns the name of a version index.
-fn name_in(names: &[Option<HeldText>], number: u16) -> Option<HeldText> {
+fn name_in(names: &[Option<HeldText>], number: u16) -> Option<HeldText>
+    ensures { result ≡ text_of_number names.now number }
+{
     match names.get(number as usize) {
         Some(name) => *name,
         None => None,
