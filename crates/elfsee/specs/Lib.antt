@@ -1,5 +1,6 @@
 pub mod Ends
 pub mod Explaining
 pub mod Layouts
+pub mod LinkTexts
 pub mod Naming
 pub mod Needs
