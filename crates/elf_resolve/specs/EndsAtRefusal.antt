@@ -30,8 +30,8 @@ MovesOf files (Some member) (Some file) = MovesMember files.headers file member
 abbrev pub MovesRow : LinkFiles → LinkRow → Type 0
 MovesRow files row = MovesOf files row.member (files.file row.input)
 
--- THE LAST ROW IS REFUSED, and none before it; the rows are the first ones of a whole link, but for the
--- kind of the last
+-- THE LAST ROW IS REFUSED, and none before it; the rows are the first ones of a whole link, except for
+-- the kind of the last
 pub record RefusedLast (files : LinkFiles) (rows whole : List LinkRow) (index : Option ℕ) (refusal : LinkRefusal) : Type 0 where
   pub before : List LinkRow
   pub row : LinkRow
