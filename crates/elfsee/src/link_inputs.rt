@@ -1,6 +1,7 @@
 //! The inputs of a link, and where they are: the files that the arguments of a linker name, and
 //! those of the scripts among them.
-ghost use Rattle.std.specs.Prelude.{None};
+ghost use Rattle.std.specs.Prelude.{None, Some};
+ghost use Rattle.elfsee.specs.LinkTexts.{path_of_input};
 
 use crate::input_kinds::{FoundFile, look_into, open_regular};
 use crate::link_texts::{InputTexts, TextPlace};
@@ -355,7 +356,7 @@ where
 
     ghost file = { λ s input. None };
 
-    ghost text = { λ s input. None };
+    ghost text = { λ s input. Some (path_of_input s.texts.bytes.items s.paths.items input) };
 
     fn open(&mut self, input: u32) -> Result<Self::InputSource, OpenFault> {
         match str::from_utf8(self.path(input)) {

@@ -1,4 +1,6 @@
 //! The texts of a link: the paths and the names of libraries that its arguments and scripts have.
+ghost use Rattle.std.specs.Prelude.{◌≡◌};
+ghost use Rattle.elfsee.specs.LinkTexts.{text_at};
 
 use std::alloc::{AllocError, Global};
 
@@ -55,10 +57,14 @@ impl InputTexts {
     }
 
     /// Returns a text, which is empty if these are not its texts.
-    pub fn text(&self, place: TextPlace) -> &[u8] {
-        self.bytes
-            .get(place.start..place.start.saturating_add(place.size))
-            .unwrap_or(&[])
+    pub fn text(&self, place: TextPlace) -> &[u8]
+        ensures { result.now ≡ text_at self.now.bytes.items place }
+    {
+        let used = self.bytes.len();
+        if place.start > used || place.size > used - place.start {
+            return b"";
+        }
+        &self.bytes[place.start..place.start + place.size]
     }
 
     /// Appends bytes.

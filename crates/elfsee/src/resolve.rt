@@ -1,4 +1,13 @@
 //! Where the symbols of a link come from.
+ghost use Rattle.std.specs.Prelude.{◌≡◌, ℕ, List, Some, None, map};
+ghost use Rattle.std.specs.Io.Buffered.{writer_inner};
+ghost use Rattle.elf_model.specs.LinkArchives.{files_as_inputs, names_of_files};
+ghost use Rattle.elf_model.specs.LinkInputs.{LinkInputs, linked};
+ghost use Rattle.elf_model.specs.LinkLines.{FileNames};
+ghost use Rattle.elf_resolve.specs.Plans.{IsStaticPlan, planned_files, plan_steps};
+ghost use Rattle.elf_resolve.specs.ResolvedInputs.{IsFresh};
+ghost use Rattle.elf_resolve.specs.StaticLinks.{AreKeysListed, AreRowsNamed};
+ghost use Rattle.elfsee.specs.Links.{AnswersLink, ResolvesLink, WritesLink, failure_of, lines_end};
 
 use crate::link_inputs::FoundInputs;
 use crate::linker_words::{LinkerWords, WordFault, read_linker_words};
@@ -10,7 +19,7 @@ use elf_cli::{
 use elf_format::{LinePrefix, line_of, show_named};
 use elf_model::Format;
 use elf_resolve::{InputFiles, LinkCaps, LinkFault, LinkLines, LinkPlan, Resolver, show_link};
-use elf_source::{Out, Sink, WriteSink};
+use elf_source::{Out, OutFault, Sink, WriteSink};
 use std::alloc::Global;
 use std::hash::RandomState;
 use std::io::{self, BufWriter, Stderr, Write};
@@ -53,7 +62,7 @@ where
 
 /// Why a link has no lines, or not all.
 #[derive(Clone, Copy)]
-enum LinkFailure {
+pub(crate) enum LinkFailure {
     /// Out of memory.
     Memory,
     /// A file cannot be opened.
@@ -124,42 +133,27 @@ where
     R::File: FileExt,
 {
     let alloc = rt.alloc();
+    let caps = caps_of(asked);
     let Ok(output) = BufWriter::with_capacity(alloc, OUTPUT_BYTES, io::writer(rt)) else {
         return Err(LinkFailure::Memory);
     };
     let Ok(hasher) = RandomState::new(rt) else {
         return Err(LinkFailure::Read);
     };
-    let mut files = FoundInputs::new(rt, alloc, caps_of(asked).rows);
+    let mut files = FoundInputs::new(rt, alloc, caps.rows);
     let Ok(plan) = files.find_all(alloc, words) else {
         return Err(LinkFailure::Memory);
     };
-    resolve_plan(alloc, asked, hasher, words, &mut files, &plan, output)
-}
-
-/// Allocates the memory of a link, takes its inputs, and writes its lines. Returns the status.
-///
-/// # Errors
-/// Out of memory, a file cannot be opened or read, or the output cannot be written.
-fn resolve_plan<F: InputFiles, W: Write + Drop>(
-    alloc: Global,
-    asked: &CommandArgs<'_>,
-    hasher: RandomState,
-    words: &LinkerWords<'_>,
-    files: &mut F,
-    plan: &LinkPlan,
-    output: BufWriter<W>,
-) -> Result<u8, LinkFailure> {
-    let caps = caps_of(asked);
-    let steps = plan.steps.len();
     let Ok(memory) = Bump::try_with_capacity(alloc, caps.key_bytes as usize) else {
         return Err(LinkFailure::Memory);
     };
+    let steps = plan.steps.len();
     let Ok(mut link) = Resolver::new(alloc, hasher, &caps, words.output, steps, &memory) else {
         return Err(LinkFailure::Memory);
     };
-    let ended = resolve_into(&mut link, files, words, plan);
-    show_resolved(&link, &*files, ended, lines_of(asked), output)
+    let style = lines_of(asked);
+    let (ended, _output) = write_link(&mut link, &mut files, &words.asked, &plan, style, output);
+    ended
 }
 
 /// Returns how the lines are written.
@@ -170,41 +164,76 @@ fn lines_of(asked: &CommandArgs<'_>) -> LinkLines {
     }
 }
 
-/// Takes the inputs of a link.
+/// Takes the inputs of a new link, and writes its lines and the rest of the output. Returns the
+/// status, and the sink. Nothing is written if a file cannot be opened or read.
 ///
 /// # Errors
-/// A file cannot be opened or read.
-fn resolve_into<F: InputFiles>(
+/// Out of memory, a file cannot be opened or read, or the output cannot be written.
+fn write_link<F: InputFiles, W: Write + Drop>(
     link: &mut Resolver<'_>,
     files: &mut F,
-    words: &LinkerWords<'_>,
+    asked: &[&str],
     plan: &LinkPlan,
-) -> Result<(), LinkFault> {
-    link.resolve(files, &words.asked, plan)
-}
-
-/// Writes the lines of a link, and returns the status.
-///
-/// # Errors
-/// A file could not be opened or read, or the output cannot be written.
-fn show_resolved<F: InputFiles, W: Write + Drop>(
-    link: &Resolver<'_>,
-    files: &F,
-    ended: Result<(), LinkFault>,
     style: LinkLines,
     output: BufWriter<W>,
-) -> Result<u8, LinkFailure> {
-    match ended {
-        Ok(()) => {}
-        Err(LinkFault::Open) => return Err(LinkFailure::Open),
-        Err(LinkFault::Memory) => return Err(LinkFailure::Memory),
-        Err(_) => return Err(LinkFailure::Read),
+) -> (Result<u8, LinkFailure>, WriteSink<W>)
+    ensures { (inputs : LinkInputs) (path : ℕ → List ℕ) → IsFresh link.old →
+        IsStaticPlan (F.file files.old) plan.now → plan_steps inputs ≡ plan.now.steps.items →
+        ((input : ℕ) → F.text files.old input ≡ Some (path input)) → link.new.end ≡ None →
+        let all = planned_files (F.file files.old) plan.now link.old.room.headers in
+        AnswersLink (ResolvesLink W.contents style (names_of_files all path)
+        (linked (files_as_inputs all) (map (λ name. name.now) asked.now) inputs)
+        link.new output result.0 result.1)
+        (W.contents (writer_inner output)) (W.contents result.1.writer) result.0 }
+{
+    match link.resolve(files, asked, plan) {
+        Ok(()) => write_lines(link, &*files, style, output),
+        Err(fault) => (Err(failure_of(fault)), write_rest(output, false)),
     }
+}
+
+/// Returns why a link has no lines.
+#[tactic(auto, unfolding(crate::specs::Links::failure_of))]
+fn failure_of(fault: LinkFault) -> LinkFailure
+    ensures { result ≡ failure_of fault }
+{
+    match fault {
+        LinkFault::Open => LinkFailure::Open,
+        LinkFault::Memory => LinkFailure::Memory,
+        LinkFault::Read | LinkFault::Refused(_) => LinkFailure::Read,
+    }
+}
+
+/// Writes the lines of a link, and the rest of the output. Returns the status, and the sink.
+///
+/// # Errors
+/// The output cannot be written.
+fn write_lines<F: InputFiles, W: Write + Drop>(
+    link: &Resolver<'_>,
+    files: &F,
+    style: LinkLines,
+    output: BufWriter<W>,
+) -> (Result<u8, LinkFailure>, WriteSink<W>)
+    ensures { (names : FileNames) → (link.now.end ≡ None → AreKeysListed link.now) →
+        AreRowsNamed (F.text files.now) names link.now →
+        WritesLink W.contents style names link.now output result.0 result.1 }
+{
     let mut out = Out::new(WriteSink::new(output));
     let shown = show_link(link, files, style, &mut out);
     let rest = write_rest(out.into_inner().into_inner(), shown.is_ok());
+    (lines_end(&shown, rest.failed()), rest)
+}
+
+/// Returns how a link ends whose lines were written, by whether the output failed.
+///
+/// # Errors
+/// The output cannot be written.
+#[tactic(auto, unfolding(crate::specs::Links::lines_end))]
+fn lines_end(shown: &Result<u8, OutFault>, failed: bool) -> Result<u8, LinkFailure>
+    ensures { result ≡ lines_end shown.now failed }
+{
     match shown {
-        Ok(status) if !rest.failed() => Ok(status),
-        _ => Err(LinkFailure::Write),
+        Ok(status) if !failed => Ok(*status),
+        Ok(_) | Err(_) => Err(LinkFailure::Write),
     }
 }
