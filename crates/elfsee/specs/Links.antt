@@ -26,7 +26,7 @@ lines_end (Ok status) false = Ok status
 lines_end shown failed = Err failure.Write
 
 -- LINES AND THE REST of an output are written, and the status is theirs
-pub record WritesLines {W A : Type 0} (contents : W → Option (List ℕ)) (text : List ℕ) (found : ℕ) (output : BufWriter W A) (answer : Result ℕ LinkFailure) (sink : Writing W) : Type 0 where
+pub record WritesLinkLines {W A : Type 0} (contents : W → Option (List ℕ)) (text : List ℕ) (found : ℕ) (output : BufWriter W A) (answer : Result ℕ LinkFailure) (sink : Writing W) : Type 0 where
   pub before : OutState
   pub after : OutState
   pub shown : Result ℕ OutFault
@@ -41,7 +41,7 @@ pub record WritesLines {W A : Type 0} (contents : W → Option (List ℕ)) (text
 -- the lines of a link
 abbrev pub WritesLink : {W A : Type 0} → (W → Option (List ℕ)) → LinkLines → FileNames → Resolver → BufWriter W A → Result ℕ LinkFailure → Writing W → Type 0
 WritesLink contents style names link output answer sink =
-    WritesLines contents (concat (shown_link style.problems (in_columns style.format) names link)) (shown_status link link.end) output answer sink
+    WritesLinkLines contents (concat (shown_link style.problems (in_columns style.format) names link)) (shown_status link link.end) output answer sink
 
 -- what a link did that ended so: nothing is written if a file cannot be opened or read
 abbrev pub AnswersLink : (did : Type 0) (old new : Option (List ℕ)) → Result ℕ LinkFailure → Type 0
