@@ -16,6 +16,7 @@ use Rattle.elf_resolve.specs.Resolved.{linking_of, open_archive}
 use Rattle.elf_resolve.specs.StaticLinks.{AreKeysListed}
 use Rattle.elf_resolve.specs.declared.archives.ArchiveTables.{ArchiveTables}
 use Rattle.elf_resolve.specs.declared.archives.OpenedArchive.{OpenedArchive}
+use Rattle.elf_resolve.specs.declared.linker_names.OutputKind.{OutputKind}
 use Rattle.elf_resolve.specs.declared.passes.Link.{Link}
 use Rattle.elf_resolve.specs.declared.resolver.Resolver.{Resolver}
 use Rattle.elf_resolve.proofs.OwnKeyLaws.{entries_at, further_more, keyed_more}
@@ -88,8 +89,8 @@ listed_by old new link spare further offers tables listed = record {
   archives = subst (λ (t : ArchiveTables). AreConsecutive 0 t.archives.items (length t.entries.items)) (sym tables) listed.archives;
 }
 
-pub listed_marked : (old new : Resolver) → new ≡ record old { problems = new.problems } → AreKeysListed old → AreKeysListed new
-listed_marked old new same listed =
+pub listed_marked : (old new : Resolver) (output : OutputKind) → new ≡ record old { output = output; problems = new.problems } → AreKeysListed old → AreKeysListed new
+listed_marked old new output same listed =
     listed_by old new (ap (λ (r : Resolver). r.link) same) (ap (λ (r : Resolver). r.spare) same) (ap (λ (r : Resolver). r.further) same) (ap (λ (r : Resolver). r.offers) same) (ap (λ (r : Resolver). r.tables) same) listed
 
 pub listed_ended : (old new : Resolver) → new ≡ record old { end = new.end } → AreKeysListed old → AreKeysListed new

@@ -1,6 +1,7 @@
 //! The inputs of a link, and the files that they are.
 ghost use Rattle.std.specs.Prelude.{◌≡◌, ℕ, IfOk, List, Option, Some};
 
+use crate::linker_names::OutputKind;
 use elf_source::Source;
 
 /// What is at an input.
@@ -40,13 +41,15 @@ pub enum LinkStep {
     Close,
 }
 
-/// The inputs of a link, and its steps.
+/// The inputs of a link, its steps, and what is made.
 #[derive(Drop)]
 pub struct LinkPlan {
     /// The inputs.
     pub inputs: Vec<LinkInput>,
     /// The steps, in order.
     pub steps: Vec<LinkStep>,
+    /// What is made, which decides about the linker's own names.
+    pub output: OutputKind,
 }
 
 /// Why a file cannot be opened.

@@ -55,6 +55,14 @@ pub struct OutputKind {
     pub is_dynamic: bool,
 }
 
+impl OutputKind {
+    /// A program that is made of objects and archives alone.
+    pub const PROGRAM: OutputKind = OutputKind {
+        is_shared: false,
+        is_dynamic: false,
+    };
+}
+
 /// Returns `true` if a linker defines a name, apart from the bounds of sections.
 pub(crate) fn is_linker_name(name: &[u8], output: OutputKind) -> bool
     ensures { result ≡ defines_name (output_of output) name.now }

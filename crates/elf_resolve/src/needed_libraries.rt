@@ -46,7 +46,6 @@ impl Resolver<'_> {
     ) -> Result<(), LinkFault> {
         let keys = &mut self.link.keys;
         let end = open_library(src, &mut self.room, keys, &mut self.libraries, library)?;
-        self.output.is_dynamic = true;
         self.end_library(library.row, library.input, end);
         Ok(())
     }

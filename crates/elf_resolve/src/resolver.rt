@@ -103,7 +103,6 @@ impl<'a> Resolver<'a> {
         alloc: Global,
         hasher: RandomState,
         caps: &LinkCaps,
-        output: OutputKind,
         steps: usize,
         memory: &'a Bump,
     ) -> Result<Resolver<'a>, AllocError>
@@ -131,7 +130,7 @@ impl<'a> Resolver<'a> {
             offers,
             further,
             room,
-            output,
+            output: OutputKind::PROGRAM,
             end: None,
             problems,
             spare,
@@ -177,6 +176,7 @@ impl<'a> Resolver<'a> {
         ensures listed { (inputs : LinkInputs) → IsFresh self.old →
             IsStaticPlan (F.file files.old) plan.now → plan_steps inputs ≡ plan.now.steps.items →
             self.new.end ≡ None → OnOk result (AreKeysListed self.new) }
+        ensures output { self.new.output ≡ plan.now.output }
         ensures text { F.text files.new ≡ F.text files.old }
         ensures names { (inputs : LinkInputs) → IsFresh self.old →
             IsStaticPlan (F.file files.old) plan.now → plan_steps inputs ≡ plan.now.steps.items →
@@ -200,14 +200,15 @@ impl<'a> Resolver<'a> {
             self.new.link.rows.rows end) }
     {
         let taken = self.take_all(files, asked, plan);
-        self.list_by_keys();
+        self.list_by_keys(plan.output);
         self.end_with(taken)
     }
 
-    /// Lists by their keys what the lines of keys name, and marks the rows that those of faults
-    /// name.
-    fn list_by_keys(&mut self)
+    /// Sets what is made, lists by their keys what the lines of keys name, and marks the rows that
+    /// those of faults name.
+    fn list_by_keys(&mut self, output: OutputKind)
         ensures same { linking_of self.new ≡ linking_of self.old }
+        ensures output { self.new.output ≡ output }
         ensures kinds { self.new.kinds ≡ self.old.kinds }
         ensures lists { HasListRoom self.old → IsOwnLink (linking_of self.old) →
             AreKeysListed self.new }
@@ -216,6 +217,7 @@ impl<'a> Resolver<'a> {
     {
         self.chain_entries();
         self.chain_further();
+        self.output = output;
         self.mark_problems();
     }
 

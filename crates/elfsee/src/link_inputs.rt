@@ -84,6 +84,7 @@ where
         let mut plan = LinkPlan {
             inputs: Vec::new(alloc),
             steps: Vec::new(alloc),
+            output: words.output,
         };
         self.add_directories(&words.directories)?;
         self.add_directories(&SYSTEM)?;
@@ -217,6 +218,9 @@ where
             as_needed: state.as_needed,
         })?;
         plan.steps.push(LinkStep::Input(index))?;
+        if kind == InputKind::Shared {
+            plan.output.is_dynamic = true;
+        }
         Ok(())
     }
 

@@ -93,7 +93,7 @@ pub struct LinkerWords<'w> {
     pub directories: Vec<&'w str>,
     /// The symbols that are asked for.
     pub asked: Vec<&'w str>,
-    /// What is made; whether there is a shared library is not known here.
+    /// What is made; a shared library among the inputs is not counted yet.
     pub output: OutputKind,
     entry: &'w str,
     state: WordState,
@@ -128,10 +128,7 @@ pub fn read_linker_words<'w>(
         steps: Vec::with_capacity(alloc, words.len())?,
         directories: Vec::with_capacity(alloc, words.len())?,
         asked: Vec::with_capacity(alloc, words.len().saturating_add(1))?,
-        output: OutputKind {
-            is_shared: false,
-            is_dynamic: false,
-        },
+        output: OutputKind::PROGRAM,
         entry: START,
         state: WordState {
             is_static: false,

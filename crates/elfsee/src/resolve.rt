@@ -148,7 +148,7 @@ where
         return Err(LinkFailure::Memory);
     };
     let steps = plan.steps.len();
-    let Ok(mut link) = Resolver::new(alloc, hasher, &caps, words.output, steps, &memory) else {
+    let Ok(mut link) = Resolver::new(alloc, hasher, &caps, steps, &memory) else {
         return Err(LinkFailure::Memory);
     };
     let style = lines_of(asked);

@@ -30,6 +30,9 @@ returns-clause-listed g c = λ inputs fresh static steps ends.
     listed_ended c.list_by_keys.new.self c.end_with.new.self c.end_with.ensures.rest
     (c.list_by_keys.ensures.lists (on_ok _ _ _ was (c.take_all-taken.ensures.room inputs fresh static steps)) own)) (c.end_with.ensures.ends ends)
 
+pub returns-clause-output : goal.returns-clause-output
+returns-clause-output g c = ap (λ (r : Resolver). r.output) c.end_with.ensures.rest ∙ c.list_by_keys.ensures.output
+
 pub returns-clause-names : goal.returns-clause-names
 returns-clause-names g c = λ inputs fresh static steps ends.
     let all = planned_files (g.F.InputFiles.file c.args.files.now) c.args.plan.now c.args.self.now.room.headers in
