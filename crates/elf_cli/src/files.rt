@@ -11,6 +11,9 @@ use std::io::{BufWriter, Write};
 use std::os::unix::fs::{FileExt, FileTypeExt};
 use std::rt::Files;
 
+/// How many pages of a file are cached.
+const FILE_PAGES: u16 = 1024;
+
 /// Allocates memory for so many headers of a file, and the buffer of an output.
 ///
 /// # Errors
@@ -45,9 +48,9 @@ pub fn allocate_pages(alloc: Global, budget: Option<u64>) -> Result<PageCache, E
         × (ending.1.now ≡ codes "elfsee: out of memory")) }
 {
     if budget.is_some() {
-        return Ok(PageCache::new(alloc, false));
+        return Ok(PageCache::empty(alloc));
     }
-    match PageCache::with_room(alloc) {
+    match PageCache::with_room(alloc, FILE_PAGES) {
         Ok(pages) => Ok(pages),
         Err(_) => Err(OUT_OF_MEMORY),
     }

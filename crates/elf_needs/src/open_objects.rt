@@ -8,6 +8,9 @@ use elf_source::{CachedSource, PageCache, Source};
 use elf_table::{Fault, HeaderStore};
 use std::alloc::{AllocError, Global};
 
+/// How many pages of each file are cached.
+const OBJECT_PAGES: u16 = 64;
+
 /// Objects whose files are kept open, in their order, each with its index among all. Those without
 /// a hash table have no symbols, and are not kept.
 #[derive(Drop)]
@@ -108,11 +111,11 @@ impl<S: Source + Drop> OpenObjects<CachedSource<S>> {
 /// there is no memory, one that stays empty.
 fn pages_for(alloc: Global, keeps: bool) -> PageCache {
     if keeps {
-        if let Ok(pages) = PageCache::with_room(alloc) {
+        if let Ok(pages) = PageCache::with_room(alloc, OBJECT_PAGES) {
             return pages;
         }
     }
-    PageCache::new(alloc, false)
+    PageCache::empty(alloc)
 }
 
 /// Reads what the lookups in an object have in common, if symbols are looked up.

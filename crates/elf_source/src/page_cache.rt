@@ -9,21 +9,19 @@ use std::alloc::{AllocError, Global};
 use std::marker::Model;
 use std::mem;
 
-/// How many pages are cached.
-const PAGES: usize = 64;
+/// How many indexes there are for each page that may be cached.
+const INDEXES: usize = 4;
 
-/// How many pages, by their numbers in the file, have an index of their own.
-const INDEXES: usize = 256;
-
-/// The pages of a file that were read last, at most 64.
+/// The pages of a file that were read last, as many as there is room for.
 #[derive(Drop)]
 pub struct PageCache {
     pages: Vec<Page>,
-    keeps: bool,
+    // How many pages may be cached.
+    most: usize,
     // The index of the page that is replaced next.
     next: usize,
     // The index of a page that is cached, by the remainder of its number in the file.
-    indexes: [u8; INDEXES],
+    indexes: Vec<u16>,
 }
 
 impl Model for PageCache {
@@ -36,27 +34,30 @@ impl Model for PageCache {
 }
 
 impl PageCache {
-    /// Creates an empty cache, which allocates each page from `alloc` when it is read, or, if
-    /// `keeps` is false, stays empty.
-    pub fn new(alloc: Global, keeps: bool) -> PageCache
+    /// Creates a cache that stays empty.
+    pub fn empty(alloc: Global) -> PageCache
         ensures { result ≡ [] }
     {
-        PageCache::over(Vec::new(alloc), keeps)
+        PageCache::over(Vec::new(alloc), Vec::new(alloc), 0)
     }
 
-    /// Creates an empty cache, and allocates the memory of all its pages: 64 of 4,096 bytes.
+    /// Creates an empty cache, and allocates the memory of `most` pages of 4,096 bytes, each of
+    /// which is written to when it is read, and 8 bytes more for each.
     ///
     /// # Errors
     /// Out of memory.
-    pub fn with_room(alloc: Global) -> Result<PageCache, AllocError>
+    pub fn with_room(alloc: Global, most: u16) -> Result<PageCache, AllocError>
         ensures { IfOk result (λ cache. cache ≡ []) }
     {
-        Ok(PageCache::over(Vec::with_capacity(alloc, PAGES)?, true))
+        let most = usize::from(most);
+        let pages = Vec::with_capacity(alloc, most)?;
+        let indexes = vec![in alloc; 0u16; most * INDEXES]?;
+        Ok(PageCache::over(pages, indexes, most))
     }
 
     /// Returns the cache, and leaves one that stays empty.
     pub fn take(&mut self) -> PageCache {
-        let empty = PageCache::new(*self.pages.allocator(), false);
+        let empty = PageCache::empty(*self.pages.allocator());
         mem::replace(self, empty)
     }
 
@@ -69,14 +70,14 @@ impl PageCache {
     }
 
     /// Creates a cache of these pages.
-    fn over(pages: Vec<Page>, keeps: bool) -> PageCache
+    fn over(pages: Vec<Page>, indexes: Vec<u16>, most: usize) -> PageCache
         ensures { result ≡ pages.items }
     {
         PageCache {
             pages,
-            keeps,
+            most,
             next: 0,
-            indexes: [0; INDEXES],
+            indexes,
         }
     }
 
@@ -85,7 +86,10 @@ impl PageCache {
     pub(crate) fn give(&self, at: u64, out: &mut [u8]) -> bool
         ensures { GivesAny self.now at out.old out.new result }
     {
-        match self.pages.get(usize::from(self.indexes[index_place(at)])) {
+        let Some(index) = self.indexes.get(self.index_place(at)) else {
+            return false;
+        };
+        match self.pages.get(usize::from(*index)) {
             Some(page) => page.give(at, out),
             None => false,
         }
@@ -99,31 +103,31 @@ impl PageCache {
         ensures held { ReadsPage (S.seen source.old) self.old self.new }
     {
         let index = self.next_index();
+        let place = self.index_place(at);
+        if let Some(known) = self.indexes.get_mut(place) {
+            *known = u16::try_from(index).unwrap_or(u16::MAX);
+        }
         if index < self.pages.len() {
-            self.indexes[index_place(at)] = index as u8;
             self.pages[index].load(source, at);
         }
     }
 
     /// Returns the index of the page that is read next: a new one, or the one that was read first.
     fn next_index(&mut self) -> usize
-        ensures few { result < 64 }
         ensures held { KeepsPages self.old self.new }
     {
         let count = self.pages.len();
-        if self.keeps && count < PAGES {
+        if count < self.most {
             let _ = self.pages.push(Page::new());
             return count;
         }
-        let index = self.next % PAGES;
-        self.next = index + 1;
+        let index = if self.next < count { self.next } else { 0 };
+        self.next = index.saturating_add(1);
         index
     }
-}
 
-/// Returns the place of the index of the page that contains a file offset.
-fn index_place(at: u64) -> usize
-    ensures { result < 256 }
-{
-    (at / PAGE_BYTES as u64) as usize % INDEXES
+    /// Returns the place of the index of the page that contains a file offset.
+    fn index_place(&self, at: u64) -> usize {
+        (at / PAGE_BYTES as u64) as usize % self.indexes.len().max(1)
+    }
 }
