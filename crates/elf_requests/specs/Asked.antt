@@ -1,5 +1,5 @@
 -- What the arguments of a command request.
-use Rattle.std.specs.Prelude.{Bool, true, false, ◌≡◌, ◌≤◌, ◌==◌, ◌&&◌, ◌||◌, nat_lt, [], ◌∷◌, length, option_map, None, Some, Ok}
+use Rattle.std.specs.Prelude.{Bool, true, false, not, ◌≡◌, ◌≤◌, ◌==◌, ◌&&◌, ◌||◌, nat_lt, [], ◌∷◌, length, option_map, None, Some, Ok}
 use Rattle.clap.specs.Walk.{Text, texts}
 use Rattle.elf_model.specs.BytesQuery.{BytesQuery, OfName, OfSection, OfSegment}
 use Rattle.elf_model.specs.Prelude.{IsWanted, is_complete, no_items, parse_query}
@@ -11,7 +11,7 @@ use Rattle.elf_reloc.specs.Queried.{query_as}
 use Rattle.elf_requests.specs.AskedTraits.{AreRequired}
 use Rattle.elf_requests.specs.Layouts.{LaysWords}
 use Rattle.elf_requests.specs.declared.parsed_command.ParsedCommand.{ParsedCommand}
-use Rattle.elf_requests.specs.declared.parsed_command.ParsedCommand.TheVariants.{File, Laid, Chosen, Image, Check, List as Listings, Traits, Needs, Resolve as Linked, Archive, Explain, Version}
+use Rattle.elf_requests.specs.declared.parsed_command.ParsedCommand.TheVariants.{File, Laid, Command}
 use Rattle.elf_requests.specs.declared.requests.Request.{Request}
 use Rattle.elf_requests.specs.declared.requests.Task.{Task}
 use Rattle.elf_requests.specs.declared.requests.Task.TheVariants.{Show, Find, Resolve, Apply, Bytes, Place}
@@ -70,19 +70,20 @@ pub record IsRequest (args : CommandArgs) (request : Request) : Type 0 where
   pub limits : request.limits ≡ args.caps.limits
   pub task : IsTask args request.task
 
+-- whether a command is a request for one file: a lookup, a section, bytes, or a listing of all rows
+abbrev pub is_request : CommandName → (selects : Bool) → Bool
+is_request command.Find selects = true
+is_request command.Apply selects = true
+is_request command.Bytes selects = true
+is_request command.Show selects = not selects
+is_request command.Sample selects = not selects
+is_request _ selects = false
+
 -- WHAT ARGUMENTS REQUEST: by the command something of one file, a section with the items of a file
 -- too, or what all arguments say
 abbrev pub Makes : CommandArgs → ParsedCommand → Type 0
 Makes args (File request) = IsRequest args request × (args.command ≡ command.Apply → args.layout ≡ None)
 Makes args (Laid asked) = IsRequest args asked.request × (args.command ≡ command.Apply) × (args.layout ≡ Some asked.list)
-Makes args (Chosen asked) = (asked ≡ args) × (lists_file args.command ≡ true) × (selects_rows args ≡ true)
-Makes args (Check asked) = (asked ≡ args) × (args.command ≡ command.Check)
-Makes args (Listings asked) = (asked ≡ args) × (args.command ≡ command.List)
-Makes args (Traits asked) =
-    (asked.args ≡ args) × (args.command ≡ command.Traits) × AreRequired (option_map (λ text. text.now) args.require) asked.required.items
-Makes args (Needs asked) = (asked ≡ args) × (args.command ≡ command.Needs)
-Makes args (Linked asked) = (asked ≡ args) × (args.command ≡ command.Resolve)
-Makes args (Archive asked) = (asked ≡ args) × (args.command ≡ command.Archive)
-Makes args (Image asked) = (asked ≡ args) × (args.command ≡ command.Image)
-Makes args (Explain asked) = (asked ≡ args) × (args.command ≡ command.Explain)
-Makes args Version = args.command ≡ command.Version
+Makes args (Command asked) =
+    (asked.args ≡ args) × (is_request args.command (selects_rows args) ≡ false)
+    × AreRequired (option_map (λ text. text.now) args.require) asked.required.items

@@ -21,7 +21,7 @@ pub use archive_request::archive_status;
 pub use elf_cli::{RequestFault, outcome};
 pub use elf_table::RunFault;
 pub use names::{checked_name, checked_symbol};
-pub use parsed_command::{ApplyWithLayout, ParsedCommand, TraitsRequest};
+pub use parsed_command::{ApplyWithLayout, CommandRequest, ParsedCommand};
 pub use requests::{LookupName, LookupSymbol, Request, Task};
 pub use run_request::run;
 pub use words::request;

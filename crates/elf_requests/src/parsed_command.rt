@@ -1,4 +1,4 @@
-//! What a command line requests: of one file, of many, of an archive, or the version.
+//! What a command line requests: something of one file, or a command with all its arguments.
 use crate::requests::Request;
 use elf_cli::CommandArgs;
 use elf_options::RequiredTrait;
@@ -10,26 +10,9 @@ pub enum ParsedCommand<'a> {
     File(Request<'a>),
     /// Apply a section's relocations, with the items of a file too.
     Laid(ApplyWithLayout<'a>),
-    /// List the rows of one file that have one of some names.
-    Chosen(CommandArgs<'a>),
-    /// Check many files.
-    Check(CommandArgs<'a>),
-    /// List many files.
-    List(CommandArgs<'a>),
-    /// Print how each of many files is hardened.
-    Traits(TraitsRequest<'a>),
-    /// Print the libraries that programs need.
-    Needs(CommandArgs<'a>),
-    /// Print where a linker takes symbols from.
-    Resolve(CommandArgs<'a>),
-    /// List the members of an archive.
-    Archive(CommandArgs<'a>),
-    /// Write a segment as a loader leaves it, or print what its image lacks.
-    Image(CommandArgs<'a>),
-    /// Print what causes and states mean.
-    Explain(CommandArgs<'a>),
-    /// Print the version of the program.
-    Version,
+    /// Carry out a command by all its arguments: any other than `find`, `apply`, `bytes`, and a
+    /// listing of all rows.
+    Command(CommandRequest<'a>),
 }
 
 /// A section to apply, with the items of a file after those of its layout.
@@ -41,10 +24,10 @@ pub struct ApplyWithLayout<'a> {
     pub list: &'a str,
 }
 
-/// How many files are hardened, and which traits are required.
+/// A command with its arguments.
 #[derive(Drop)]
-pub struct TraitsRequest<'a> {
-    /// The arguments.
+pub struct CommandRequest<'a> {
+    /// The arguments, and which command it is.
     pub args: CommandArgs<'a>,
     /// The traits required of each program and library, in the order given.
     pub required: Vec<RequiredTrait<'a>>,

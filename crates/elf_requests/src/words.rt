@@ -15,7 +15,7 @@ ghost use Rattle.elf_requests.specs.declared.requests.Task.TheVariants.{Show};
 
 use crate::items::lay;
 use crate::names::{checked_name, checked_section, checked_symbol};
-use crate::parsed_command::{ApplyWithLayout, ParsedCommand, TraitsRequest};
+use crate::parsed_command::{ApplyWithLayout, CommandRequest, ParsedCommand};
 use crate::requests::{Request, Task};
 use crate::trait_words::required_of;
 use clap::ArgMatches;
@@ -92,22 +92,23 @@ fn made_of<'a>(
     ensures refused { IfErr result (HasFault args.entry) }
 {
     match args.command {
-        CommandName::Show | CommandName::Sample if args.selects_rows() => {
-            Ok(ParsedCommand::Chosen(args))
+        CommandName::Show | CommandName::Sample if !args.selects_rows() => {
+            Ok(ParsedCommand::File(listing_of(&args)))
         }
-        CommandName::Show | CommandName::Sample => Ok(ParsedCommand::File(listing_of(&args))),
         CommandName::Find => lookup_command(&args),
         CommandName::Apply => section_of(&args, layout),
         CommandName::Bytes => bytes_command(&args),
-        CommandName::Image => Ok(ParsedCommand::Image(args)),
-        CommandName::Check => Ok(ParsedCommand::Check(args)),
-        CommandName::List => Ok(ParsedCommand::List(args)),
-        CommandName::Traits => Ok(ParsedCommand::Traits(TraitsRequest { args, required })),
-        CommandName::Needs => Ok(ParsedCommand::Needs(args)),
-        CommandName::Resolve => Ok(ParsedCommand::Resolve(args)),
-        CommandName::Archive => Ok(ParsedCommand::Archive(args)),
-        CommandName::Explain => Ok(ParsedCommand::Explain(args)),
-        CommandName::Version => Ok(ParsedCommand::Version),
+        CommandName::Show
+        | CommandName::Sample
+        | CommandName::Image
+        | CommandName::Check
+        | CommandName::List
+        | CommandName::Traits
+        | CommandName::Needs
+        | CommandName::Resolve
+        | CommandName::Archive
+        | CommandName::Explain
+        | CommandName::Version => Ok(ParsedCommand::Command(CommandRequest { args, required })),
     }
 }
 

@@ -29,15 +29,15 @@ ghost use Rattle.elfsee.specs.Ends.{AnswersFile, EndsRunOver, EndsTask, EndsWith
 
 use archives::list_archive;
 use elf_cli::{
-    ExitLine, OUT_OF_MEMORY, allocate, allocate_pages, end_answer, exit, open_by_pages, read_words,
-    report_explanations, report_refused, report_version,
+    CommandName, ExitLine, OUT_OF_MEMORY, allocate, allocate_pages, end_answer, exit,
+    open_by_pages, read_words, report_explanations, report_refused, report_version,
 };
 use elf_fixtures::sample;
 use elf_format::TableWriter;
 use elf_layout::Layout;
 use elf_model::Format;
 use elf_record::Refusal;
-use elf_requests::{ParsedCommand, Request, Task, request, run};
+use elf_requests::{CommandRequest, ParsedCommand, Request, Task, request, run};
 use elf_source::{Counted, MemorySource, Out, PageCache, Sink, Source, WriteSink};
 use elf_table::{HeaderStore, RunFault};
 use images::write_images;
@@ -102,16 +102,37 @@ where
     match asked {
         ParsedCommand::File(request) => answer_request(rt, request, errors),
         ParsedCommand::Laid(laying) => apply_laid(rt, laying, errors),
-        ParsedCommand::Chosen(choosing) => show_chosen(rt, choosing, errors),
-        ParsedCommand::Check(checking) => check_many(rt, checking, terminal),
-        ParsedCommand::List(asked) => list_files(rt, asked, terminal),
-        ParsedCommand::Traits(traits) => report_traits(rt, traits, terminal),
-        ParsedCommand::Needs(asked) => report_needs(rt, asked, terminal),
-        ParsedCommand::Resolve(asked) => report_link(rt, asked, errors),
-        ParsedCommand::Archive(archiving) => list_archive(rt, archiving),
-        ParsedCommand::Image(asked) => write_images(rt, asked, errors),
-        ParsedCommand::Explain(asked) => report_explanations(rt, &asked.causes, errors),
-        ParsedCommand::Version => report_version(rt),
+        ParsedCommand::Command(asked) => carry_out_command(rt, asked, errors, terminal),
+    }
+}
+
+/// Carries out a command by all its arguments. Those of one file come here if they list the rows of
+/// some names.
+fn carry_out_command<R: Files + Print + Input + RandomSource + AllocGlobal>(
+    rt: &R,
+    asked: &CommandRequest<'_>,
+    errors: Stderr,
+    terminal: Option<Stderr>,
+) -> Result<ExitLine, ExitLine>
+where
+    R::File: FileExt,
+{
+    let args = &asked.args;
+    match args.command {
+        CommandName::Check => check_many(rt, args, terminal),
+        CommandName::List => list_files(rt, args, terminal),
+        CommandName::Traits => report_traits(rt, asked, terminal),
+        CommandName::Needs => report_needs(rt, args, terminal),
+        CommandName::Resolve => report_link(rt, args, errors),
+        CommandName::Archive => list_archive(rt, args),
+        CommandName::Image => write_images(rt, args, errors),
+        CommandName::Explain => report_explanations(rt, &args.causes, errors),
+        CommandName::Version => report_version(rt),
+        CommandName::Show
+        | CommandName::Sample
+        | CommandName::Find
+        | CommandName::Apply
+        | CommandName::Bytes => show_chosen(rt, args, errors),
     }
 }
 

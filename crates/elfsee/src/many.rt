@@ -8,7 +8,7 @@ use elf_cli::{
 };
 use elf_format::TableWriter;
 use elf_model::Format;
-use elf_requests::TraitsRequest;
+use elf_requests::CommandRequest;
 use elf_source::{DeferredSink, LocatedSink, Out, OutFault, Sink, WriteSink};
 use elf_table::{HeaderBuffer, HeaderStore};
 use elf_walk::{
@@ -62,7 +62,7 @@ where
 #[inline(never)]
 pub fn report_traits<R: Files + Print + Input + AllocGlobal>(
     rt: &R,
-    asked: &TraitsRequest<'_>,
+    asked: &CommandRequest<'_>,
     terminal: Option<Stderr>,
 ) -> Result<ExitLine, ExitLine>
 where
@@ -103,7 +103,7 @@ fn new_checks<'a>(asked: &CommandArgs<'_>, store: HeaderStore<'a>) -> CheckFiles
 }
 
 /// Creates the trait lines for a request.
-fn new_trait_lines<'a>(asked: &'a TraitsRequest<'a>, store: HeaderStore<'a>) -> TraitReport<'a>
+fn new_trait_lines<'a>(asked: &'a CommandRequest<'a>, store: HeaderStore<'a>) -> TraitReport<'a>
     requires { store.slots ≡ asked.now.args.caps.limits.headers }
     ensures limits { result.limits ≡ asked.now.args.caps.limits }
     ensures format { result.format ≡ asked.now.args.caps.style.format }
