@@ -3,6 +3,7 @@ pub mod Ledger
 pub mod Load
 pub mod Stops
 pub mod Store
+pub mod Slots
 pub mod Cursors
 pub mod Files
 pub mod HashSections

@@ -11,6 +11,11 @@ pub record StoreState : Type 0 where
   pub segments : ℕ
   pub segment_rows : List (List ℕ)
 
+-- the bytes of a buffer that were written, and for how many slots of 64 bytes it has room
+pub record SlotBytes : Type 0 where
+  pub bytes : List ℕ
+  pub slots : ℕ
+
 -- a store with a number of slots and no header
 abbrev pub empty : ℕ → StoreState
 empty slots = record { slots = slots; loaded = 0; rows = []; segments = 0; segment_rows = [] }

@@ -33,6 +33,7 @@ mod segment_checks;
 mod segment_loading;
 mod segment_view;
 mod segments;
+mod slot_memory;
 mod store;
 mod table;
 mod window;

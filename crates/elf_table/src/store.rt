@@ -1,29 +1,28 @@
 //! The store of headers, over memory borrowed from its caller.
 ghost use Rattle.std.specs.Prelude.{◌≡◌, ℕ, ◌+◌, ◌*◌, ◌^◌, if◌then◌else◌, is_ok, ◌<◌, ◌≤◌};
-ghost use Rattle.std.specs.Prelude.{List, Some, length, take, IfOk, IfErr, OnOk};
+ghost use Rattle.std.specs.Prelude.{List, Some, length, IfErr, OnOk};
 ghost use Rattle.elf_model.specs.Prelude.{section_at, segment_at, slice};
 ghost use Rattle.elf_record.specs.Prelude.{IsPhdr, IsShdr};
 ghost use Rattle.elf_source.specs.Source.{ReadsUpTo};
 ghost use Rattle.elf_table.specs.Faults.{IsReadFault, IsOfRead};
+ghost use Rattle.elf_table.specs.Slots.{held_bytes, most_bytes};
 ghost use Rattle.elf_table.specs.Store.{empty, emptied, row, segment_bytes};
 ghost use Rattle.elf_table.specs.Store.{AreRowSlices, HoldsSections, HoldsSegments, rows_from};
 
 use crate::fault::Fault;
-use crate::located_read::fill;
+use crate::slot_memory::{SLOT_BYTES, SlotBuffer, SlotMemory};
 use elf_record::{Phdr, Shdr};
-use elf_source::{Counted, READ_BYTES, Source};
+use elf_source::{Counted, Source};
 use std::marker::Model;
 
-/// The size of a slot, and of a section header, in bytes.
-pub(crate) const SLOT_BYTES: usize = 64;
 /// The size of a program header in bytes.
 const SEGMENT_BYTES: usize = 56;
 
 /// The section headers of one file, 64 bytes each, or its program headers, 56 bytes each,
-/// consecutive in borrowed memory.
+/// consecutive in borrowed memory, which is written to as far as headers are loaded.
 #[derive(Drop)]
 pub struct HeaderStore<'a> {
-    bytes: &'a mut [u8],
+    memory: SlotMemory<'a>,
     slots: u16,
     loaded: u16,
     segments: u16,
@@ -31,6 +30,7 @@ pub struct HeaderStore<'a> {
 
 impl<'a> Model for HeaderStore<'a> {
     ghost use Rattle.std.specs.Prelude.{◌≡◌, ◌*◌, ◌≤◌, length};
+    ghost use Rattle.elf_table.specs.Slots.{held_bytes, most_bytes};
     ghost use Rattle.elf_table.specs.Store.{StoreState, rows_from};
 
     ghost Value = { StoreState };
@@ -38,28 +38,50 @@ impl<'a> Model for HeaderStore<'a> {
     ghost view = { λ s. record {
       slots = s.slots;
       loaded = s.loaded;
-      rows = rows_from s.bytes.now 0 64 s.loaded;
+      rows = rows_from (held_bytes s.memory) 0 64 s.loaded;
       segments = s.segments;
-      segment_rows = rows_from s.bytes.now 0 56 s.segments;
+      segment_rows = rows_from (held_bytes s.memory) 0 56 s.segments;
     } };
 
     ghost invariant = { λ s.
-        (64 * s.slots ≤ length s.bytes.now) × (s.loaded ≤ s.slots) × (s.segments ≤ s.slots)
-        × (1 ≤ s.slots) × (s.slots ≤ 65279) };
+        (64 * s.slots ≤ most_bytes s.memory) × (64 * s.loaded ≤ length (held_bytes s.memory))
+        × (56 * s.segments ≤ length (held_bytes s.memory)) × (s.loaded ≤ s.slots)
+        × (s.segments ≤ s.slots) × (1 ≤ s.slots) × (s.slots ≤ 65279) };
 }
 
 impl<'a> HeaderStore<'a> {
     /// Creates a store of `headers` slots, 1 to 65,279, with no header loaded, over memory of at
     /// least 64 bytes for each slot. The previous contents of the memory do not matter.
-    #[tactic(auto, unfolding(crate::specs::Store::rows_from))]
     pub fn over(bytes: &'a mut [u8], headers: u16) -> HeaderStore<'a>
         requires some { 1 ≤ headers }
         requires permitted { headers ≤ 65279 }
         requires room { 64 * headers ≤ length bytes.old }
         ensures { result ≡ empty headers }
     {
+        HeaderStore::of(SlotMemory::Whole(bytes), headers)
+    }
+
+    /// Creates a store of `headers` slots, at least 1 and at most those of a buffer, with no header
+    /// loaded. The buffer is written to as far as headers are loaded.
+    pub(crate) fn growing(buffer: &'a mut SlotBuffer, headers: u16) -> HeaderStore<'a>
+        requires some { 1 ≤ headers }
+        requires room { headers ≤ buffer.old.slots }
+        requires permitted { headers ≤ 65279 }
+        ensures { result ≡ empty headers }
+    {
+        HeaderStore::of(SlotMemory::Growing(buffer), headers)
+    }
+
+    /// Creates a store of `headers` slots, with no header loaded.
+    #[tactic(auto, unfolding(crate::specs::Store::rows_from))]
+    fn of(memory: SlotMemory<'a>, headers: u16) -> HeaderStore<'a>
+        requires some { 1 ≤ headers }
+        requires permitted { headers ≤ 65279 }
+        requires room { 64 * headers ≤ most_bytes memory }
+        ensures { result ≡ empty headers }
+    {
         HeaderStore {
-            bytes,
+            memory,
             slots: headers,
             loaded: 0,
             segments: 0,
@@ -130,7 +152,7 @@ impl<'a> HeaderStore<'a> {
         requires { i < self.now.loaded }
         ensures { result.now ≡ row self.now i }
     {
-        row_of(self.bytes, i)
+        row_of(self.memory.held(), i)
     }
 
     /// Returns the bytes of the program header of an index below [`HeaderStore::segments`].
@@ -139,7 +161,7 @@ impl<'a> HeaderStore<'a> {
         requires { i < self.now.segments }
         ensures { result.now ≡ segment_bytes self.now i }
     {
-        row_of(self.bytes, i)
+        row_of(self.memory.held(), i)
     }
 
     /// Loads the section headers of a file, `count` of them at the offset `from`; on a fault none
@@ -163,7 +185,7 @@ impl<'a> HeaderStore<'a> {
             OnOk result (AreRowSlices file from 64 count self.new.rows) }
     {
         self.forget();
-        read_rows(src, self.bytes, SLOT_BYTES, count, from)?;
+        read_rows(src, &mut self.memory, SLOT_BYTES, count, from)?;
         self.loaded = count;
         Ok(())
     }
@@ -189,7 +211,7 @@ impl<'a> HeaderStore<'a> {
             OnOk result (AreRowSlices file from 56 count self.new.segment_rows) }
     {
         self.forget();
-        read_rows(src, self.bytes, SEGMENT_BYTES, count, from)?;
+        read_rows(src, &mut self.memory, SEGMENT_BYTES, count, from)?;
         self.segments = count;
         Ok(())
     }
@@ -204,50 +226,27 @@ impl<'a> HeaderStore<'a> {
     }
 }
 
-/// Reads `count` rows of `size` bytes at the offset `from` to the start of `bytes`.
+/// Reads `count` rows of `size` bytes at the offset `from` to the start of a store's memory.
 #[tactic(auto, using(crate::proofs::RowsHeld::rows_read_ok))]
 fn read_rows<S: Source>(
     src: &mut Counted<S>,
-    bytes: &mut [u8],
+    memory: &mut SlotMemory<'_>,
     size: usize,
     count: u16,
     from: u64,
 ) -> Result<(), Fault>
-    requires room { size * count ≤ length bytes.old }
+    requires room { size * count ≤ most_bytes memory.old }
     requires within { from + size * count ≤ src.old.seen.size }
     requires fits { from + size * count < 2 ^ 64 }
+    ensures most { most_bytes memory.new ≡ most_bytes memory.old }
+    ensures held { size * count ≤ length (held_bytes memory.new) }
     ensures reads { ReadsUpTo src.old src.new (size * count) }
     ensures says { IfErr result (IsReadFault src.old src.new (size * count)) }
     ensures fault { IfErr result IsOfRead }
-    ensures rows { (file : List ℕ) → src.old.seen.file ≡ Some file →
-        OnOk result (AreRowSlices file from size count (rows_from bytes.new 0 size count)) }
+    ensures rows { (file : List ℕ) → src.old.seen.file ≡ Some file → OnOk result
+        (AreRowSlices file from size count (rows_from (held_bytes memory.new) 0 size count)) }
 {
-    read_front(src, bytes, size * count as usize, from)
-}
-
-/// Reads `size` bytes at the offset `from` to the start of `bytes`.
-fn read_front<S: Source>(
-    src: &mut Counted<S>,
-    bytes: &mut [u8],
-    size: usize,
-    from: u64,
-) -> Result<(), Fault>
-    requires room { size ≤ length bytes.old }
-    requires within { from + size ≤ src.old.seen.size }
-    requires fits { from + size < 2 ^ 64 }
-    ensures reads { ReadsUpTo src.old src.new size }
-    ensures says { IfErr result (IsReadFault src.old src.new size) }
-    ensures fault { IfErr result IsOfRead }
-    ensures read { (file : List ℕ) → src.old.seen.file ≡ Some file →
-        OnOk result (take size bytes.new ≡ slice file from size) }
-{
-    let mut done = 0;
-    while done < size {
-        let count = READ_BYTES.min(size - done);
-        fill(src, from + done as u64, &mut bytes[done..done + count])?;
-        done += count;
-    }
-    Ok(())
+    memory.read(src, size * count as usize, from)
 }
 
 /// Returns the row of an index, of consecutive rows of `N` bytes.

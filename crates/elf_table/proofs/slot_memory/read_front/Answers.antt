@@ -5,7 +5,7 @@ use Rattle.elf_source.specs.Source.{ReadsUpTo}
 use Rattle.elf_source.proofs.ReadsLaws.{ReadsUpTo-then}
 use Rattle.elf_table.proofs.PagesRead.{page-size, page-added}
 use borrow.Rule.Slice.PartMut.{same_len_mid}
-use Rattle.elf_table.proofs.store.read_front.Goals as goal
+use Rattle.elf_table.proofs.slot_memory.read_front.Goals as goal
 
 pub loop-done-preserved : goal.loop-done-preserved
 loop-done-preserved g c =

@@ -2,7 +2,7 @@
 use Rattle.std.proofs.Common.{◌-◌, ◌≡◌, ℕ, ◌≤◌, List, Some, length, take}
 use Rattle.elf_model.specs.Bytes.{slice}
 use Rattle.elf_source.specs.Source.{ReadsUpTo}
-use Rattle.elf_table.proofs.store.read_front.Given as goal
+use Rattle.elf_table.proofs.slot_memory.read_front.Given as goal
 
 abbrev pub invariant-loop-done : goal.invariant-loop-done
 invariant-loop-done g l = record {
