@@ -14,6 +14,7 @@ use Rattle.elf_resolve.specs.LinkTexts.{WritesText}
 use Rattle.elf_resolve.specs.Resolved.{linking_of}
 use Rattle.elf_resolve.specs.ShownLinks.{in_columns, shown_link, shown_status}
 use Rattle.elf_resolve.specs.declared.lines.LinkLines.{LinkLines}
+use Rattle.elf_resolve.specs.declared.linker_names.OutputKind.{OutputKind}
 use Rattle.elf_resolve.specs.declared.link_faults.LinkFault.{LinkFault}
 use Rattle.elf_resolve.specs.declared.link_faults.LinkFault.TheVariants as fault
 use Rattle.elf_resolve.specs.declared.resolver.Resolver.{Resolver}
@@ -49,9 +50,10 @@ AnswersLink did old new (Ok status) = did
 AnswersLink did old new (Err failure.Write) = did
 AnswersLink did old new (Err other) = new ≡ old
 
--- A LINK IS THE DEFINITION'S, and its lines are written
-pub record ResolvesLink {W A : Type 0} (contents : W → Option (List ℕ)) (style : LinkLines) (names : FileNames) (made : Linking) (link : Resolver) (output : BufWriter W A) (answer : Result ℕ LinkFailure) (sink : Writing W) : Type 0 where
+-- A LINK IS THE DEFINITION'S, and makes what is planned, and its lines are written
+pub record ResolvesLink {W A : Type 0} (contents : W → Option (List ℕ)) (style : LinkLines) (names : FileNames) (kind : OutputKind) (made : Linking) (link : Resolver) (output : BufWriter W A) (answer : Result ℕ LinkFailure) (sink : Writing W) : Type 0 where
   pub links : linking_of link ≡ made
+  pub makes : link.output ≡ kind
   pub lines : WritesLink contents style names link output answer sink
 
 -- why a link has no lines whose files fail so

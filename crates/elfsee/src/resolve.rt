@@ -181,7 +181,7 @@ fn write_link<F: InputFiles, W: Write + Drop>(
         IsStaticPlan (F.file files.old) plan.now → plan_steps inputs ≡ plan.now.steps.items →
         ((input : ℕ) → F.text files.old input ≡ Some (path input)) → link.new.end ≡ None →
         let all = planned_files (F.file files.old) plan.now link.old.room.headers in
-        AnswersLink (ResolvesLink W.contents style (names_of_files all path)
+        AnswersLink (ResolvesLink W.contents style (names_of_files all path) plan.now.output
         (linked (files_as_inputs all) (map (λ name. name.now) asked.now) inputs)
         link.new output result.0 result.1)
         (W.contents (writer_inner output)) (W.contents result.1.writer) result.0 }

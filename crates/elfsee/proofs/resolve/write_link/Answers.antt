@@ -9,7 +9,7 @@ returns-in-Ok g c inputs path fresh static steps known ended =
     let resolved = c.in-Ok.ensures in
     let all = planned_files (g.F.InputFiles.file c.args.files.now) c.args.plan.now c.args.link.now.room.headers in
     let lines = c.write_lines.ensures (names_of_files all path) (λ none. resolved.listed inputs fresh static steps ended) (resolved.named inputs path fresh static steps known ended) in
-    lines_answer _ _ _ _ lines.shown c.write_lines.result.1.failed lines.ends (record { links = resolved.links inputs fresh static steps ended; lines = lines })
+    lines_answer _ _ _ _ lines.shown c.write_lines.result.1.failed lines.ends (record { links = resolved.links inputs fresh static steps ended; makes = resolved.output; lines = lines })
 
 pub returns-in-Err : goal.returns-in-Err
 returns-in-Err g c _ _ _ _ _ _ _ =
