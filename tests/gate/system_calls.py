@@ -8,7 +8,7 @@ its system calls is observed by ptrace: which file is looked at, opened and clos
 length is sought, each read with its offset and its size, each write with its size, each large
 allocation. The expected calls are computed from the rules in docs/ARCHITECTURE.md: a listing asks for whole rows of
 up to 4,096 bytes, and for no byte of a table twice. With a read budget each of these is one call. Without one, what
-lies in one page of 4,096 bytes is read by that page, and the last 64 pages are kept.
+lies in one page of 4,096 bytes is read by that page, and the last 1,024 pages are kept.
 
 PROGRAM is the built program (./build makes it if none is given). It needs only Python 3.
 If the system lets no process trace another, it says so, and counts nothing. The last line is
@@ -43,7 +43,7 @@ NOT_TRACED, NOT_STARTED = 77, 78
 FAR, FARTHER, HEADERS = 0x110000000, 0x120000000, 0x140000000
 PAGE, BUFFER = 4096, 65536
 # How many pages are kept, and how many places there are for their indexes.
-KEPT, PLACES = 64, 256
+KEPT, PLACES = 1024, 4096
 BUDGET = ("--max-read", "1000000000000")
 
 counts = Counts()
@@ -293,8 +293,8 @@ class Cases:
         large = [size for size in run.maps if size >= 64 * 4096]
         check("one piece of memory for the header store, and one for the pages of a file", "" if len(large) == 2 else str(large))
         run = self.run("as many headers as there can be", path, "show", "--headers", "65279", "--only", "header", path)
-        large = [size for size in run.maps if size >= 64 * 65279]
-        check("one piece of memory for 65,279 headers", "" if len(large) == 1 and large[0] < 64 * 65279 + 2 * PAGE else str(large))
+        large = [size for size in run.maps if 64 * 65279 <= size < 64 * 65279 + 2 * PAGE]
+        check("one piece of memory for 65,279 headers", "" if len(large) == 1 else str(run.maps))
         path = os.path.join(self.folder, "segments")
         with open(path, "wb") as file:
             file.write(file_header(2, segments=4096) + struct.pack("<2I6Q", 1, 4, 0, 0, 0, 0, 0, 0) * 4096)
@@ -369,6 +369,20 @@ class Cases:
         columns, *rows = run.text.split(b"\n")[:-1]
         rows = [len(row) + 1 for row in rows]
         check("6,000 symbols in a table: writes", first_difference(filled_rows(rows, [len(columns), 1]), run.writes))
+
+    def scattered_names(self):
+        """3,000 symbols, whose names are in 1,500 pages, each in the page after that of the one before it."""
+        strings = b"".join((b"\0name_%04d" % number).ljust(PAGE, b"\0") for number in range(1500))
+        symbols = b"".join(symbol(1 + PAGE * (number % 1500)) for number in range(3000))
+        path = made(self.folder, "scattered",
+                    [section(2, FAR, len(symbols), link=2, entry=24), section(3, FARTHER, len(strings))],
+                    {FAR: symbols, FARTHER: strings})
+        asked = self.run("names in 1,500 pages", path, "show", *BUDGET, "--only", "symbols", path).reads
+        wanted = by_pages(asked, os.path.getsize(path))
+        run = self.run("names in 1,500 pages by pages", path, "show", "--only", "symbols", path)
+        check(f"names in 1,500 pages: {len(wanted)} reads", first_difference(wanted, run.reads))
+        again = len(wanted) - len(set(wanted))
+        check(f"names in 1,500 pages: {again} pages are read once more", "" if 1000 < again < 2000 else str(again))
 
     def long_names(self):
         """100 symbols with names of 4,096 bytes."""
@@ -570,7 +584,7 @@ def main():
             if platform.machine() != "x86_64":
                 raise Untraced
             for case in (cases.headers, cases.unopened, cases.tables, cases.notes, cases.names,
-                         cases.long_names, cases.sections, cases.lookups, cases.folders, cases.checks, cases.pieces, cases.archives, cases.needs, cases.failing_output):
+                         cases.scattered_names, cases.long_names, cases.sections, cases.lookups, cases.folders, cases.checks, cases.pieces, cases.archives, cases.needs, cases.failing_output):
                 case()
         except Untraced:
             print("skipped the counts of calls: this system lets no process trace another")
