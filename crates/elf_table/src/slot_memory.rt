@@ -4,7 +4,7 @@ ghost use Rattle.std.specs.Prelude.{vec_capacity, vec_len, IfErr, IfOk, OnOk};
 ghost use Rattle.elf_model.specs.Prelude.{slice};
 ghost use Rattle.elf_source.specs.Source.{ReadsUpTo};
 ghost use Rattle.elf_table.specs.Faults.{IsReadFault, IsOfRead};
-ghost use Rattle.elf_table.specs.Slots.{held_bytes, most_bytes};
+ghost use Rattle.elf_table.specs.Slots.{slot_contents, slot_room};
 
 use crate::fault::Fault;
 use crate::located_read::fill;
@@ -94,7 +94,7 @@ pub(crate) enum SlotMemory<'a> {
 impl<'a> SlotMemory<'a> {
     /// Returns the bytes that were written.
     pub(crate) fn held(&self) -> &[u8]
-        ensures { result.now ≡ held_bytes self.now }
+        ensures { result.now ≡ slot_contents self.now }
     {
         match self {
             SlotMemory::Whole(bytes) => bytes,
@@ -109,16 +109,16 @@ impl<'a> SlotMemory<'a> {
         size: usize,
         from: u64,
     ) -> Result<(), Fault>
-        requires room { size ≤ most_bytes self.old }
+        requires room { size ≤ slot_room self.old }
         requires within { from + size ≤ src.old.seen.size }
         requires fits { from + size < 2 ^ 64 }
-        ensures most { most_bytes self.new ≡ most_bytes self.old }
-        ensures held { size ≤ length (held_bytes self.new) }
+        ensures most { slot_room self.new ≡ slot_room self.old }
+        ensures held { size ≤ length (slot_contents self.new) }
         ensures reads { ReadsUpTo src.old src.new size }
         ensures says { IfErr result (IsReadFault src.old src.new size) }
         ensures fault { IfErr result IsOfRead }
         ensures read { (file : List ℕ) → src.old.seen.file ≡ Some file →
-            OnOk result (take size (held_bytes self.new) ≡ slice file from size) }
+            OnOk result (take size (slot_contents self.new) ≡ slice file from size) }
     {
         match self {
             SlotMemory::Whole(bytes) => read_front(src, bytes, size, from),

@@ -5,7 +5,7 @@ ghost use Rattle.elf_model.specs.Prelude.{section_at, segment_at, slice};
 ghost use Rattle.elf_record.specs.Prelude.{IsPhdr, IsShdr};
 ghost use Rattle.elf_source.specs.Source.{ReadsUpTo};
 ghost use Rattle.elf_table.specs.Faults.{IsReadFault, IsOfRead};
-ghost use Rattle.elf_table.specs.Slots.{held_bytes, most_bytes};
+ghost use Rattle.elf_table.specs.Slots.{slot_contents, slot_room};
 ghost use Rattle.elf_table.specs.Store.{empty, emptied, row, segment_bytes};
 ghost use Rattle.elf_table.specs.Store.{AreRowSlices, HoldsSections, HoldsSegments, rows_from};
 
@@ -30,7 +30,7 @@ pub struct HeaderStore<'a> {
 
 impl<'a> Model for HeaderStore<'a> {
     ghost use Rattle.std.specs.Prelude.{◌≡◌, ◌*◌, ◌≤◌, length};
-    ghost use Rattle.elf_table.specs.Slots.{held_bytes, most_bytes};
+    ghost use Rattle.elf_table.specs.Slots.{slot_contents, slot_room};
     ghost use Rattle.elf_table.specs.Store.{StoreState, rows_from};
 
     ghost Value = { StoreState };
@@ -38,14 +38,14 @@ impl<'a> Model for HeaderStore<'a> {
     ghost view = { λ s. record {
       slots = s.slots;
       loaded = s.loaded;
-      rows = rows_from (held_bytes s.memory) 0 64 s.loaded;
+      rows = rows_from (slot_contents s.memory) 0 64 s.loaded;
       segments = s.segments;
-      segment_rows = rows_from (held_bytes s.memory) 0 56 s.segments;
+      segment_rows = rows_from (slot_contents s.memory) 0 56 s.segments;
     } };
 
     ghost invariant = { λ s.
-        (64 * s.slots ≤ most_bytes s.memory) × (64 * s.loaded ≤ length (held_bytes s.memory))
-        × (56 * s.segments ≤ length (held_bytes s.memory)) × (s.loaded ≤ s.slots)
+        (64 * s.slots ≤ slot_room s.memory) × (64 * s.loaded ≤ length (slot_contents s.memory))
+        × (56 * s.segments ≤ length (slot_contents s.memory)) × (s.loaded ≤ s.slots)
         × (s.segments ≤ s.slots) × (1 ≤ s.slots) × (s.slots ≤ 65279) };
 }
 
@@ -77,7 +77,7 @@ impl<'a> HeaderStore<'a> {
     fn of(memory: SlotMemory<'a>, headers: u16) -> HeaderStore<'a>
         requires some { 1 ≤ headers }
         requires permitted { headers ≤ 65279 }
-        requires room { 64 * headers ≤ most_bytes memory }
+        requires room { 64 * headers ≤ slot_room memory }
         ensures { result ≡ empty headers }
     {
         HeaderStore {
@@ -235,16 +235,16 @@ fn read_rows<S: Source>(
     count: u16,
     from: u64,
 ) -> Result<(), Fault>
-    requires room { size * count ≤ most_bytes memory.old }
+    requires room { size * count ≤ slot_room memory.old }
     requires within { from + size * count ≤ src.old.seen.size }
     requires fits { from + size * count < 2 ^ 64 }
-    ensures most { most_bytes memory.new ≡ most_bytes memory.old }
-    ensures held { size * count ≤ length (held_bytes memory.new) }
+    ensures most { slot_room memory.new ≡ slot_room memory.old }
+    ensures held { size * count ≤ length (slot_contents memory.new) }
     ensures reads { ReadsUpTo src.old src.new (size * count) }
     ensures says { IfErr result (IsReadFault src.old src.new (size * count)) }
     ensures fault { IfErr result IsOfRead }
     ensures rows { (file : List ℕ) → src.old.seen.file ≡ Some file → OnOk result
-        (AreRowSlices file from size count (rows_from (held_bytes memory.new) 0 size count)) }
+        (AreRowSlices file from size count (rows_from (slot_contents memory.new) 0 size count)) }
 {
     memory.read(src, size * count as usize, from)
 }
