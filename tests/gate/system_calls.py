@@ -288,10 +288,10 @@ class Cases:
         check(f"{name}: {len(wanted)} reads", first_difference(wanted, run.reads))
         return run
 
-    def resident(self, *words):
-        """The most memory of a run, in KB."""
+    def page_faults(self, *words):
+        """How many pages of memory a run used for the first time."""
         process = subprocess.Popen([self.program, *words], stdin=subprocess.DEVNULL, stdout=subprocess.DEVNULL)
-        return os.wait4(process.pid, 0)[2].ru_maxrss
+        return os.wait4(process.pid, 0)[2].ru_minflt
 
     def headers(self):
         path = made(self.folder, "headers", [section(1, 0, 0)] * 4095, {})
@@ -301,8 +301,8 @@ class Cases:
         run = self.run("as many headers as there can be", path, "show", "--headers", "65279", "--only", "header", path)
         large = [size for size in run.maps if 64 * 65279 <= size < 64 * 65279 + 2 * PAGE]
         check("one piece of memory for 65,279 headers", "" if len(large) == 1 else str(run.maps))
-        few, many = (self.resident("show", "--headers", number, "--only", "header", path) for number in ("1", "65279"))
-        check("memory for headers that the file does not have is not written to", "" if many - few < 1000 else f"{many - few} KB")
+        few, many = (self.page_faults("show", "--headers", number, "--only", "header", path) for number in ("1", "65279"))
+        check("memory for headers that are not loaded is not written to", "" if many - few < 300 else f"{many - few} pages")
         path = os.path.join(self.folder, "segments")
         with open(path, "wb") as file:
             file.write(file_header(2, segments=4096) + struct.pack("<2I6Q", 1, 4, 0, 0, 0, 0, 0, 0) * 4096)
