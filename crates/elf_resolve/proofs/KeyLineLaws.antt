@@ -60,7 +60,7 @@ entries_there key at (e ∷ entries) = by (e.key == key) (e.default_key == key) 
     by false false rest = rest
 
 -- THE ENTRIES of an archive, and those after them
-any_append : {A : Type 0} (test : A → Bool) (xs ys : List A) → list_any test (xs ++ ys) ≡ (list_any test xs || list_any test ys)
+pub any_append : {A : Type 0} (test : A → Bool) (xs ys : List A) → list_any test (xs ++ ys) ≡ (list_any test xs || list_any test ys)
 any_append test [] ys = refl
 any_append test (x ∷ xs) ys = by (test x) (any_append test xs ys)
   where
@@ -74,12 +74,12 @@ drop_all (suc n) [] past = refl
 drop_all zero (x ∷ xs) past = absurd (omega (arith, past))
 drop_all (suc n) (x ∷ xs) past = drop_all n xs (omega (arith, past))
 
-split_at : {A : Type 0} (from to : ℕ) (xs : List A) → from ≤ to → drop from xs ≡ take (to - from) (drop from xs) ++ drop to xs
+pub split_at : {A : Type 0} (from to : ℕ) (xs : List A) → from ≤ to → drop from xs ≡ take (to - from) (drop from xs) ++ drop to xs
 split_at from to xs less =
     let sum : from + (to - from) ≡ to = omega (arith, less) in
     sym (ap (λ ys. take (to - from) (drop from xs) ++ ys) (sym (ap (λ n. drop n xs) sum) ∙ sym (drop-drop (to - from) from xs)) ∙ take-append-drop (to - from) (drop from xs))
 
-ends_within : (from count : ℕ) (archives : List OpenedArchive) → AreConsecutive from archives count → from ≤ count
+pub ends_within : (from count : ℕ) (archives : List OpenedArchive) → AreConsecutive from archives count → from ≤ count
 ends_within from count [] are = omega (arith, are)
 ends_within from count (archive ∷ archives) are = omega (arith, are.1, ends_within archive.entries.1 count archives are.2)
 
@@ -135,7 +135,7 @@ further_shown format name key further = lines_of_further format name key 0 (slic
     the_same n = omega arith
 
 -- THE LINES of entries, of an archive and of all
-numbers_append : (key at : ℕ) (xs ys : List IndexEntry) → entry_numbers key at (xs ++ ys) ≡ entry_numbers key at xs ++ entry_numbers key (at + length xs) ys
+pub numbers_append : (key at : ℕ) (xs ys : List IndexEntry) → entry_numbers key at (xs ++ ys) ≡ entry_numbers key at xs ++ entry_numbers key (at + length xs) ys
 numbers_append key at [] ys = ap (λ (n : ℕ). entry_numbers key n ys) (the_same at)
   where
     the_same : (n : ℕ) → n ≡ n + 0
@@ -152,10 +152,10 @@ numbers_append key at (e ∷ xs) ys = by (e.key == key) (e.default_key == key) (
     by false true rest = ap (λ l. (at + at + 1) ∷ l) rest
     by false false rest = rest
 
-half_of : (n : ℕ) → (n + n) / 2 ≡ n
+pub half_of : (n : ℕ) → (n + n) / 2 ≡ n
 half_of n = omega arith
 
-half_after : (n : ℕ) → (n + n + 1) / 2 ≡ n
+pub half_after : (n : ℕ) → (n + n + 1) / 2 ≡ n
 half_after n = omega arith
 
 module _ (format : Format) (name : List ℕ) (key : ℕ) (get : ℕ → Option IndexEntry) (row_at : ℕ → Option ℕ) where

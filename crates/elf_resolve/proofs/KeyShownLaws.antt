@@ -73,7 +73,7 @@ module _ (format : Format) (link : Resolver) (name : List ℕ) (key : ℕ) (stat
 
 -- THE LINES of a key
 module _ (format : Format) (link : Resolver) (key : ℕ) (entry : KeyEntry) (state : FoundState) (listed : AreKeysListed link) (held : entry ≡ entry_held link key) (found : state ≡ state_found link key entry) where
-  word_is : word_of_key (output_of link.output) (linking_of link) key ≡ found_word state
+  pub word_is : word_of_key (output_of link.output) (linking_of link) key ≡ found_word state
   word_is = sym (ap found_word found ∙ word_found link key entry listed held)
 
   pub key_lines_are : key_lines format (output_of link.output) (linking_of link) key

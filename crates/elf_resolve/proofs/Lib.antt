@@ -67,3 +67,6 @@ pub mod SearchEndLaws
 pub mod StopLaws
 pub mod StopMemberLaws
 pub mod LinkEndLaws
+pub mod MarkedRowLaws
+pub mod KeyMarkLaws
+pub mod ProblemLineLaws

@@ -11,7 +11,7 @@ use Rattle.elf_resolve.specs.declared.archives.OpenedArchive.{OpenedArchive}
 use Rattle.elf_resolve.specs.declared.resolver.Resolver.{Resolver}
 
 pub lists_itself : (a : Resolver) → KeepsLists a a
-lists_itself a = record { offers = refl; further = refl; spare = refl; kinds = refl; problems = refl }
+lists_itself a = record { offers = refl; further = refl; spare = refl; kinds = refl; problems = refl; most_rows = refl }
 
 pub lists_then : (a b c : Resolver) → KeepsLists a b → KeepsLists b c → KeepsLists a c
 lists_then a b c first second = record {
@@ -20,6 +20,7 @@ lists_then a b c first second = record {
   spare = second.spare ∙ first.spare;
   kinds = second.kinds ∙ first.kinds;
   problems = second.problems ∙ first.problems;
+  most_rows = second.most_rows ∙ first.most_rows;
 }
 
 pub lists_of : (a b c : Resolver) → b ≡ c → KeepsLists a b → KeepsLists a c
@@ -55,6 +56,7 @@ room_by old new room lists limits within consecutive = record {
   spare = ap (λ s. s.chains.heads) lists.spare ∙ room.spare;
   kinds = λ index. ap (λ v. get_or v.items index None) lists.kinds ∙ room.kinds index;
   problems = λ index. ap (λ v. get_or v.items index false) lists.problems ∙ room.problems index;
+  marks = omega (arith, lists.most_rows, ap (λ v. length v.items) lists.problems, room.marks);
   offers_keys = omega (arith, limits.most, ap (λ (t : ChainTable). t.keys) lists.offers, room.offers_keys);
   further_keys = omega (arith, limits.most, ap (λ (t : ChainTable). t.keys) lists.further, room.further_keys);
   offers_numbers = omega (arith, within.most, ap (λ (t : ChainTable). t.numbers) lists.offers, room.offers_numbers);

@@ -97,6 +97,7 @@ marked_lists r0 r1 r3 walked kept same = record {
   spare = ap (λ (r : Resolver). r.spare) same ∙ kept.spare;
   kinds = ap (λ (r : Resolver). r.kinds) same ∙ kept.kinds;
   problems = ap (λ (r : Resolver). r.problems) same ∙ kept.problems;
+  most_rows = ap (λ (r : Resolver). r.link.rows.most) same ∙ kept.most_rows;
 }
 
 within_from : (first from : ArchiveTables) (last : ArchiveTables) → from.most ≡ first.most → from.entries ≡ first.entries → KeepsWithin from last → KeepsWithin first last

@@ -35,6 +35,7 @@ lists_same old new same = record {
   spare = ap (λ (r : Resolver). r.spare) same;
   kinds = ap (λ (r : Resolver). r.kinds) same;
   problems = ap (λ (r : Resolver). r.problems) same;
+  most_rows = ap (λ (r : Resolver). r.link.rows.most) same;
 }
 
 group_link : (files : LinkFiles) (old new : Resolver) → IsLink files old → new ≡ record old { groups = new.groups } → IsLink files new
@@ -107,7 +108,7 @@ differ_false a b differ = differ_by a b (a == b) refl differ
 
 -- the row of the file that is read is another
 pub row_link_still : (files : LinkFiles) (old : Resolver) (row : Option ℕ) → IsLink files old → IsLink files (record old { row = row })
-row_link_still files old row is = link_still files old (record old { row = row }) is refl refl refl refl refl (record { offers = refl; further = refl; spare = refl; kinds = refl; problems = refl }) (limits_itself old.link.keys)
+row_link_still files old row is = link_still files old (record old { row = row }) is refl refl refl refl refl (record { offers = refl; further = refl; spare = refl; kinds = refl; problems = refl; most_rows = refl }) (limits_itself old.link.keys)
 
 pub took_from_row : (files : LinkFiles) (old : Resolver) (row : Option ℕ) (new : Resolver) (index : ℕ) → TookInput files (record old { row = row }) new index (input_made (is_new_input old.states.items index) (linking_of old) index (files_as_inputs files index))
     → TookInput files old new index (input_made (is_new_input old.states.items index) (linking_of old) index (files_as_inputs files index))
@@ -128,6 +129,7 @@ asked_lists old new same = record {
   spare = ap (λ (r : Resolver). r.spare) same;
   kinds = ap (λ (r : Resolver). r.kinds) same;
   problems = ap (λ (r : Resolver). r.problems) same;
+  most_rows = ap (λ (r : Resolver). r.link.rows.most) same;
 }
 
 fresh_link : (files : LinkFiles) (old new : Resolver) (names : List (List ℕ)) → files.headers ≡ old.room.headers → IsFresh old → AskedNames old new names → IsLink files new

@@ -57,6 +57,7 @@ state_lists old new same = record {
   spare = ap (λ (r : Resolver). r.spare) same;
   kinds = ap (λ (r : Resolver). r.kinds) same;
   problems = ap (λ (r : Resolver). r.problems) same;
+  most_rows = ap (λ (r : Resolver). r.link.rows.most) same;
 }
 
 pub reached_link : (files : LinkFiles) (old new : Resolver) (index : ℕ) → IsLink files old → slice_get old.states.items index ≡ Some state.New → new ≡ record old { states = new.states } → new.states.items ≡ set old.states.items index state.Done → IsLink files new
@@ -234,6 +235,7 @@ left_lists took new left = record {
   spare = ap (λ (r : Resolver). r.spare) left;
   kinds = ap (λ (r : Resolver). r.kinds) left;
   problems = ap (λ (r : Resolver). r.problems) left;
+  most_rows = ap (λ (r : Resolver). r.link.rows.most) left;
 }
 
 pub read_makes : (files : LinkFiles) (old opened took new : Resolver) (index : ℕ) (result : Result (Unit {0}) LinkFault) → opened ≡ old → new ≡ record took { left = new.left }

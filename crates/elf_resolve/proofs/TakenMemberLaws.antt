@@ -96,6 +96,7 @@ again_makes files file old opened searched new archive a result same_open left o
         spare = ap (λ (r : Resolver). r.spare) left ∙ done.lists.spare;
         kinds = ap (λ (r : Resolver). r.kinds) left ∙ done.lists.kinds;
         problems = ap (λ (r : Resolver). r.problems) left ∙ done.lists.problems;
+        most_rows = ap (λ (r : Resolver). r.link.rows.most) left ∙ done.lists.most_rows;
       };
       limits = limits_then old.link.keys searched.link.keys new.link.keys done.limits (limits_same searched.link.keys new.link.keys (ap (λ (r : Resolver). r.link.keys) left));
     }) here

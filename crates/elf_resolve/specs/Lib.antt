@@ -44,6 +44,8 @@ pub mod KeptLimits
 pub mod ListRooms
 pub mod OwnLinks
 pub mod NamedRows
+pub mod MarkedRows
+pub mod ProblemLines
 pub mod LibrarySymbols
 pub mod VersionTexts
 pub mod KeyMarks

@@ -8,13 +8,14 @@ use Rattle.elf_resolve.specs.declared.link_memory.KeyLists.{KeyLists}
 use Rattle.elf_resolve.specs.declared.resolver.Resolver.{Resolver}
 use Rattle.elf_resolve.specs.declared.room.LinkCaps.{LinkCaps}
 
--- nothing is listed by keys, and nothing is noted of rows
+-- nothing is listed by keys, nothing is noted of rows, and there is room for as many
 pub record KeepsLists (old new : Resolver) : Type 0 where
   pub offers : new.offers ≡ old.offers
   pub further : new.further ≡ old.further
   pub spare : new.spare ≡ old.spare
   pub kinds : new.kinds ≡ old.kinds
   pub problems : new.problems ≡ old.problems
+  pub most_rows : new.link.rows.most ≡ old.link.rows.most
 
 -- the limit of the entries of indexes stays, and they are within it if they were
 pub record KeepsWithin (old new : ArchiveTables) : Type 0 where
@@ -35,14 +36,15 @@ pub record AreEmptyLists (caps : LinkCaps) (lists : KeyLists) : Type 0 where
   pub further_end : lists.further.numbers ≤ LIST_END
 
 -- A LINK OF WHICH NOTHING IS LISTED: its lists are empty and have room for all that is listed at its
--- end, no row has another kind or is marked, and each archive has the entries after those of the one
--- before it
+-- end, no row has another kind or is marked, there is a mark for each row for which there is room, and
+-- each archive has the entries after those of the one before it
 pub record HasListRoom (link : Resolver) : Type 0 where
   pub offers : link.offers.heads ≡ []
   pub further : link.further.heads ≡ []
   pub spare : link.spare.chains.heads ≡ []
   pub kinds : (index : ℕ) → get_or link.kinds.items index None ≡ None
   pub problems : (index : ℕ) → get_or link.problems.items index false ≡ false
+  pub marks : link.link.rows.most ≤ length link.problems.items
   pub offers_keys : link.link.keys.most ≤ link.offers.keys
   pub further_keys : link.link.keys.most ≤ link.further.keys
   pub offers_numbers : link.tables.most + link.tables.most ≤ link.offers.numbers

@@ -121,6 +121,7 @@ pub(crate) fn search_members<S: Source>(
     ensures limits { (file : List ℕ) → file_of_range src.old.seen ≡ Some file →
         HasMembers file tables.now.members.items archive →
         OnOk result.ended (KeepsLimits link.old.keys link.new.keys) }
+    ensures room { link.new.rows.most ≡ link.old.rows.most }
     ensures stops { (file : List ℕ) → file_of_range src.old.seen ≡ Some file →
         HasMembers file tables.now.members.items archive →
         IsRangeOf archive.members.0 archive.members.1 (length taken.old) →

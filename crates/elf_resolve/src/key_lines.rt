@@ -139,7 +139,7 @@ fn show_after<W: Sink, R: Render>(
 }
 
 /// Returns the row of the file that defines a key.
-fn definer(entry: &KeyEntry) -> Option<u32>
+pub(crate) fn definer(entry: &KeyEntry) -> Option<u32>
     ensures { result ≡ definition_row entry.now.state entry.now.row }
 {
     match entry.state {
@@ -149,7 +149,7 @@ fn definer(entry: &KeyEntry) -> Option<u32>
 }
 
 /// Returns the first row that references a key, not weakly if there is one.
-fn referrer(entry: &KeyEntry) -> Option<u32>
+pub(crate) fn referrer(entry: &KeyEntry) -> Option<u32>
     ensures { result ≡ reference_of entry.now }
 {
     match entry.reference {

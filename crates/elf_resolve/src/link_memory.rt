@@ -1,5 +1,5 @@
 //! The memory of a link, in parts.
-ghost use Rattle.std.specs.Prelude.{◌≡◌, [], IfOk, None, false, get_or, true, ℕ};
+ghost use Rattle.std.specs.Prelude.{◌≡◌, [], IfOk, None, false, get_or, length, true, ℕ};
 ghost use Rattle.elf_model.specs.LinkKeys.{no_keys};
 ghost use Rattle.elf_resolve.specs.LinkPlaces.{is_new_input};
 ghost use Rattle.elf_resolve.specs.ListRooms.{AreEmptyLists};
@@ -68,6 +68,7 @@ pub(crate) fn new_link<'a>(
     memory: &'a Bump,
 ) -> Result<Link<'a>, AllocError>
     ensures empty { IfOk result (λ link. (link.keys.keys ≡ no_keys) × (link.rows.rows ≡ [])) }
+    ensures rows { IfOk result (λ link. link.rows.most ≡ caps.now.rows) }
     ensures limits { IfOk result (λ link. (link.keys.most ≡ caps.now.keys)
         × (link.keys.most_further ≡ caps.now.index)) }
 {
@@ -110,6 +111,7 @@ impl RowMarks {
             (λ marks. (row : ℕ) → get_or marks.kinds.items row None ≡ None) }
         ensures problems { IfOk result
             (λ marks. (row : ℕ) → get_or marks.problems.items row false ≡ false) }
+        ensures rows { IfOk result (λ marks. length marks.problems.items ≡ caps.now.rows) }
     {
         Ok(RowMarks {
             taken: Vec::with_capacity(alloc, caps.index as usize)?,

@@ -176,6 +176,7 @@ pub fn visit_entry<'a, M: ArchiveObjects>(
         ≡ entry_visited (searched_archive archive (M.members members.old)) (pass_of link.old taken.old)
         entry) }
     ensures limits { M.known members.old → OnOk result (KeepsLimits link.old.keys link.new.keys) }
+    ensures room { link.new.rows.most ≡ link.old.rows.most }
     ensures stops { M.known members.old → AddsMembers (M.refusal members.old)
         (M.stopped members.new) (M.halted members.new) archive.input (length taken.old)
         link.old.rows.rows link.new.rows.rows
@@ -221,6 +222,7 @@ pub fn pass_index<'a, M: ArchiveObjects>(
         ≡ index_passed (searched_archive archive (M.members members.old)) (pass_of link.old taken.old)
         entries.now) }
     ensures limits { M.known members.old → OnOk result (KeepsLimits link.old.keys link.new.keys) }
+    ensures room { link.new.rows.most ≡ link.old.rows.most }
     ensures stops { M.known members.old → AddsMembers (M.refusal members.old)
         (M.stopped members.new) (M.halted members.new) archive.input (length taken.old)
         link.old.rows.rows link.new.rows.rows
@@ -257,6 +259,7 @@ pub fn search_archive<'a, M: ArchiveObjects>(
         ≡ archive_searched (searched_archive archive (M.members members.old)) entries.now
         (pass_of link.old taken.old)) }
     ensures limits { M.known members.old → OnOk result (KeepsLimits link.old.keys link.new.keys) }
+    ensures room { link.new.rows.most ≡ link.old.rows.most }
     ensures stops { M.known members.old → AddsMembers (M.refusal members.old)
         (M.stopped members.new) (M.halted members.new) archive.input (length taken.old)
         link.old.rows.rows link.new.rows.rows

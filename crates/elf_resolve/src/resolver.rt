@@ -1,9 +1,14 @@
 //! The inputs of a link in their order.
-ghost use Rattle.std.specs.Prelude.{◌≡◌, ◌≢◌, ◌+◌, ◌<◌, ◌∷◌, [], false, ℕ, List, get_or, length, map, Err, IfErr, IfOk, OnOk, None, Ok, Some};
+ghost use Rattle.std.specs.Prelude.{◌≡◌, ◌≢◌, ◌+◌, ◌<◌, ◌∷◌, [], false, true, ℕ, List, get_or, length, map, Err, IfErr, IfOk, OnOk, None, Ok, Some};
 ghost use Rattle.std.specs.List.{slice_get};
 ghost use Rattle.std.proofs.Math.ListN.{set};
 ghost use Rattle.elf_model.specs.LinkArchives.{LinkFiles, files_as_inputs, names_of_files};
 ghost use Rattle.elf_model.specs.LinkInputs.{LinkInputs, Linking, file_row, input_taken, linked, with_arguments};
+ghost use Rattle.elf_model.specs.LinkLines.{FileNames};
+ghost use Rattle.elf_model.specs.declared.formats.Format.{Format};
+ghost use Rattle.elf_resolve.specs.LinkerNames.{output_of};
+ghost use Rattle.elf_resolve.specs.ProblemLines.{lines_of_problems};
+ghost use Rattle.elf_resolve.specs.ShownLinks.{shown_link};
 ghost use Rattle.elf_resolve.specs.StaticLinks.{AreRowsNamed};
 ghost use Rattle.elf_source.specs.Prelude.{IsWholeRange};
 ghost use Rattle.elf_resolve.specs.EndsAtRefusal.{EndsLink, HasBadScript, LeavesRows};
@@ -11,6 +16,7 @@ ghost use Rattle.elf_resolve.specs.Taken.{IsLinkFault};
 ghost use Rattle.elf_resolve.specs.LinkMembers.{file_of_range};
 ghost use Rattle.elf_resolve.specs.LinkPlaces.{IsLinkAt, input_made, is_new_input};
 ghost use Rattle.elf_resolve.specs.ListRooms.{HasListRoom};
+ghost use Rattle.elf_resolve.specs.MarkedRows.{AreFaultsMarked};
 ghost use Rattle.elf_resolve.specs.OwnLinks.{IsOwnLink};
 ghost use Rattle.elf_resolve.specs.Plans.{IsStaticPlan, planned_files, plan_steps};
 ghost use Rattle.elf_resolve.specs.Resolved.{linking_of};
@@ -176,6 +182,14 @@ impl<'a> Resolver<'a> {
         ensures listed { (inputs : LinkInputs) → IsFresh self.old →
             IsStaticPlan (F.file files.old) plan.now → plan_steps inputs ≡ plan.now.steps.items →
             self.new.end ≡ None → OnOk result (AreKeysListed self.new) }
+        ensures marked { (inputs : LinkInputs) → IsFresh self.old →
+            IsStaticPlan (F.file files.old) plan.now → plan_steps inputs ≡ plan.now.steps.items →
+            self.new.end ≡ None → OnOk result (AreFaultsMarked self.new) }
+        ensures problems { (inputs : LinkInputs) (format : Format) (names : FileNames) →
+            IsFresh self.old → IsStaticPlan (F.file files.old) plan.now →
+            plan_steps inputs ≡ plan.now.steps.items → self.new.end ≡ None →
+            OnOk result (shown_link true format names self.new
+            ≡ lines_of_problems format names (output_of self.new.output) (linking_of self.new)) }
         ensures output { self.new.output ≡ plan.now.output }
         ensures text { F.text files.new ≡ F.text files.old }
         ensures names { (inputs : LinkInputs) → IsFresh self.old →
@@ -212,6 +226,8 @@ impl<'a> Resolver<'a> {
         ensures kinds { self.new.kinds ≡ self.old.kinds }
         ensures lists { HasListRoom self.old → IsOwnLink (linking_of self.old) →
             AreKeysListed self.new }
+        ensures marks { HasListRoom self.old → IsOwnLink (linking_of self.old) →
+            AreFaultsMarked self.new }
         ensures row { self.new.row ≡ self.old.row }
         ensures room { self.new.room ≡ self.old.room }
     {

@@ -1,5 +1,5 @@
 //! The rows of a link.
-ghost use Rattle.std.specs.Prelude.{◌≡◌, IfOk, length, []};
+ghost use Rattle.std.specs.Prelude.{◌≡◌, ◌≤◌, IfOk, length, []};
 ghost use Rattle.elf_resolve.specs.RowTables.{AddsRow};
 
 use elf_model::LinkRow;
@@ -41,7 +41,8 @@ impl RowTable {
 
     /// Returns the rows.
     pub fn rows(&self) -> &[LinkRow]
-        ensures { result.now ≡ self.now.rows }
+        ensures rows { result.now ≡ self.now.rows }
+        ensures within { length self.now.rows ≤ self.now.most }
     {
         &self.rows
     }

@@ -11,7 +11,7 @@ returns-in_err-show_if_chosen-clause-writes g c =
     let link = c.args.link.now in
     let i = c.loop-index.index in
     let there : i < length link.link.rows.rows = omega (arith, c.loop-index-test.true, c.len-index-end.ensures) in
-    row_fails (g.F.InputFiles.text c.args.files.now) c.args.problems g.R.Render.FORMAT names link c.rows-rows.result.now c.rows-rows.ensures named i _ c.args.out.now c.loop-index.out c.show_if_chosen.new.out c.in_err-show_if_chosen.field-0.0 there
+    row_fails (g.F.InputFiles.text c.args.files.now) c.args.problems g.R.Render.FORMAT names link c.rows-rows.result.now c.rows-rows.ensures.rows named i _ c.args.out.now c.loop-index.out c.show_if_chosen.new.out c.in_err-show_if_chosen.field-0.0 there
     (c.loop-index.invariant.shown names named) c.in_err-show_if_chosen.ensures.writes)
 
 pub loop-index-preserved : goal.loop-index-preserved
@@ -20,9 +20,9 @@ loop-index-preserved g c =
     let i = c.loop-index.index in
     let there : i < length link.link.rows.rows = omega (arith, c.loop-index-test.true, c.len-index-end.ensures) in
     record {
-      missing = rw (c.either-missing.ensures) (missing_at link.link.rows.rows c.rows-rows.result.now i _ c.loop-index.missing c.is_missing.result c.rows-rows.ensures there c.loop-index.invariant.missing c.is_missing.ensures);
+      missing = rw (c.either-missing.ensures) (missing_at link.link.rows.rows c.rows-rows.result.now i _ c.loop-index.missing c.is_missing.result c.rows-rows.ensures.rows there c.loop-index.invariant.missing c.is_missing.ensures);
       shown = λ names named.
-          row_more (g.F.InputFiles.text c.args.files.now) c.args.problems g.R.Render.FORMAT names link c.rows-rows.result.now c.rows-rows.ensures named i _ c.args.out.now c.loop-index.out c.show_if_chosen.new.out there
+          row_more (g.F.InputFiles.text c.args.files.now) c.args.problems g.R.Render.FORMAT names link c.rows-rows.result.now c.rows-rows.ensures.rows named i _ c.args.out.now c.loop-index.out c.show_if_chosen.new.out there
           (c.loop-index.invariant.shown names named) c.in_ok-show_if_chosen.ensures.writes;
     }
 

@@ -17,6 +17,7 @@ loop-i-preserved g c = (
   added_more _ _ _ _ _ c.args.archive.input _ _ c.visit_entry.new.link.rows.rows c.loop-i.invariant.4 c.visit_entry.ensures.same_refusal c.loop-i.invariant.1.known c.in_ok-visit_entry.ensures.stops,
   held_then _ _ _ _ (g.M.ArchiveObjects.named c.visit_entry.new.members) _ _ c.visit_entry.new.link.rows.rows _ _ (g.M.ArchiveObjects.names c.visit_entry.new.members) _ c.loop-i.invariant.1.known c.loop-i.invariant.5 c.visit_entry.ensures.named
       c.in_ok-visit_entry.ensures.names,
+  c.visit_entry.ensures.room ∙ c.loop-i.invariant.6,
 )
 
 pub returns-clause-stops : goal.returns-clause-stops

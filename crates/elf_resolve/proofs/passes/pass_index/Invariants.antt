@@ -16,3 +16,4 @@ invariant-loop-i g l =
     × AddedSoFar (g.M.ArchiveObjects.known l.initial.members) (g.M.ArchiveObjects.refusal l.initial.members) (g.M.ArchiveObjects.refusal l.members) l.archive.input l.initial.link.rows.rows l.link.rows.rows
     × HeldNames l.archive.input (g.M.ArchiveObjects.known l.initial.members) (g.M.ArchiveObjects.named l.initial.members) (g.M.ArchiveObjects.named l.members)
     l.initial.link.rows.rows l.link.rows.rows (g.M.ArchiveObjects.names l.initial.members) (g.M.ArchiveObjects.names l.members)
+    × (l.link.rows.most ≡ l.initial.link.rows.most)

@@ -29,6 +29,7 @@ loop-preserved g c = (
   added_more _ _ _ _ _ c.args.archive.input _ _ c.pass_index.new.link.rows.rows c.loop.invariant.3 c.pass_index.ensures.same_refusal c.loop.invariant.1.known c.in_ok-pass_index.ensures.stops,
   held_then _ _ _ _ (g.M.ArchiveObjects.named c.pass_index.new.members) _ _ c.pass_index.new.link.rows.rows _ _ (g.M.ArchiveObjects.names c.pass_index.new.members) _ c.loop.invariant.1.known c.loop.invariant.4 c.pass_index.ensures.named
       c.in_ok-pass_index.ensures.names,
+  c.pass_index.ensures.room ∙ c.loop.invariant.5,
 )
 
 pub returns-then-asked-before-clause-stops : goal.returns-then-asked-before-clause-stops

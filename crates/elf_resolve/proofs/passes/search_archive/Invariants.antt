@@ -17,6 +17,7 @@ invariant-loop g l =
     × AddedSoFar (g.M.ArchiveObjects.known l.initial.members) (g.M.ArchiveObjects.refusal l.initial.members) (g.M.ArchiveObjects.refusal l.members) l.archive.input l.initial.link.rows.rows l.link.rows.rows
     × HeldNames l.archive.input (g.M.ArchiveObjects.known l.initial.members) (g.M.ArchiveObjects.named l.initial.members) (g.M.ArchiveObjects.named l.members)
     l.initial.link.rows.rows l.link.rows.rows (g.M.ArchiveObjects.names l.initial.members) (g.M.ArchiveObjects.names l.members)
+    × (l.link.rows.most ≡ l.initial.link.rows.most)
 
 abbrev pub decreases-loop : goal.decreases-loop
 decreases-loop g l = untaken l.taken

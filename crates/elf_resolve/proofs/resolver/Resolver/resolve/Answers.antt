@@ -4,7 +4,9 @@ use Rattle.elf_model.specs.LinkArchives.{files_as_inputs}
 use Rattle.elf_resolve.specs.ListRooms.{HasListRoom}
 use Rattle.elf_resolve.specs.OwnLinks.{IsOwnLink}
 use Rattle.elf_resolve.specs.declared.resolver.Resolver.{Resolver}
+use Rattle.elf_resolve.proofs.KeyMarkLaws.{faults_ended}
 use Rattle.elf_resolve.proofs.ListedLaws.{listed_ended}
+use Rattle.elf_resolve.proofs.ProblemLineLaws.{problems_are}
 use Rattle.elf_resolve.proofs.OwnFileLaws.{files_own}
 use Rattle.elf_resolve.proofs.OwnLinkLaws.{linked_own}
 use Rattle.elf_resolve.proofs.TakenMemberLaws.{on_ok, on_ok_then}
@@ -29,6 +31,27 @@ returns-clause-listed g c = λ inputs fresh static steps ends.
     let own = subst (λ l. IsOwnLink l) (sym made) (linked_own (files_as_inputs all) names inputs (files_own all)) in
     listed_ended c.list_by_keys.new.self c.end_with.new.self c.end_with.ensures.rest
     (c.list_by_keys.ensures.lists (on_ok _ _ _ was (c.take_all-taken.ensures.room inputs fresh static steps)) own)) (c.end_with.ensures.ends ends)
+
+pub returns-clause-marked : goal.returns-clause-marked
+returns-clause-marked g c = λ inputs fresh static steps ends.
+    let all = planned_files (g.F.InputFiles.file c.args.files.now) c.args.plan.now c.args.self.now.room.headers in
+    let names = map (λ (a : Bor (List ℕ)). a.now) c.args.asked.now in
+    on_ok_then _ _ c.end_with.result (λ was.
+    let made = on_ok _ _ _ was (c.take_all-taken.ensures.links inputs fresh static steps) in
+    let own = subst (λ l. IsOwnLink l) (sym made) (linked_own (files_as_inputs all) names inputs (files_own all)) in
+    faults_ended c.list_by_keys.new.self c.end_with.new.self c.end_with.ensures.rest
+    (c.list_by_keys.ensures.marks (on_ok _ _ _ was (c.take_all-taken.ensures.room inputs fresh static steps)) own)) (c.end_with.ensures.ends ends)
+
+pub returns-clause-problems : goal.returns-clause-problems
+returns-clause-problems g c = λ inputs format names_of fresh static steps ends.
+    let all = planned_files (g.F.InputFiles.file c.args.files.now) c.args.plan.now c.args.self.now.room.headers in
+    let names = map (λ (a : Bor (List ℕ)). a.now) c.args.asked.now in
+    on_ok_then _ _ c.end_with.result (λ was.
+    let made = on_ok _ _ _ was (c.take_all-taken.ensures.links inputs fresh static steps) in
+    let own = subst (λ l. IsOwnLink l) (sym made) (linked_own (files_as_inputs all) names inputs (files_own all)) in
+    problems_are format names_of c.end_with.new.self ends
+    (faults_ended c.list_by_keys.new.self c.end_with.new.self c.end_with.ensures.rest
+    (c.list_by_keys.ensures.marks (on_ok _ _ _ was (c.take_all-taken.ensures.room inputs fresh static steps)) own))) (c.end_with.ensures.ends ends)
 
 pub returns-clause-output : goal.returns-clause-output
 returns-clause-output g c = ap (λ (r : Resolver). r.output) c.end_with.ensures.rest ∙ c.list_by_keys.ensures.output

@@ -15,7 +15,7 @@ returns-in-Ok-clause-searches g c = λ files file is found file_is known.
     c.search_members-found.ensures.outside (λ has fits entries_fit. on_ok _ _ _ c.in-Ok.is (c.search_members-found.ensures.searches file known has fits entries_fit)) in
     let has = search_has files file c.args.self.now c.args.archive is found file_is in
     let limits = on_ok _ _ _ c.in-Ok.is (c.search_members-found.ensures.limits file known has) in
-    record { makes = made.0; headers = c.search_members-found.ensures.headers; libraries = refl; tables = refl; states = refl; groups = refl; count = made.1; lists = record { offers = refl; further = refl; spare = refl; kinds = refl; problems = refl }; limits = limits }
+    record { makes = made.0; headers = c.search_members-found.ensures.headers; libraries = refl; tables = refl; states = refl; groups = refl; count = made.1; lists = record { offers = refl; further = refl; spare = refl; kinds = refl; problems = refl; most_rows = c.search_members-found.ensures.room }; limits = limits }
 
 pub returns-in-Ok-clause-leaves : goal.returns-in-Ok-clause-leaves
 returns-in-Ok-clause-leaves g c = λ files file is found file_is known none.
