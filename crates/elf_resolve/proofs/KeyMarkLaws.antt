@@ -9,7 +9,7 @@ use Rattle.elf_resolve.specs.FoundStates.{is_fault_state}
 use Rattle.elf_resolve.specs.KeyFinds.{entry_held, state_found}
 use Rattle.elf_resolve.specs.LinkerNames.{output_of}
 use Rattle.elf_resolve.specs.ListRooms.{HasListRoom}
-use Rattle.elf_resolve.specs.MarkedRows.{AreFaultsMarked, AreMarked, is_named, rows_after_key, rows_found_after, rows_of_fault, rows_of_faults, rows_of_key}
+use Rattle.elf_resolve.specs.MarkedRows.{AreFaultsMarked, AreMarked, is_row_named, rows_after_key, rows_found_after, rows_of_fault, rows_of_faults, rows_of_key}
 use Rattle.elf_resolve.specs.RowTables.{LinkRows}
 use Rattle.elf_resolve.specs.Resolved.{linking_of}
 use Rattle.elf_resolve.specs.StaticLinks.{AreKeysListed}
@@ -130,8 +130,8 @@ faults_marked old start new rows problems room listed same marks = λ index belo
     let there : index < length start.link.rows.rows = omega (arith, below, ap (λ (r : Resolver). length r.link.rows.rows) same) in
     let none : get_or start.problems.items index false ≡ false = ap (λ v. get_or v.items index false) problems ∙ room.problems index in
     marked.marks enough index there
-    ∙ ap (λ (b : Bool). b || is_named start.link.rows.rows (rows_of_faults (output_of start.output) (linking_of start) start.link.keys.keys.order) index) none
-    ∙ sym (ap (λ (r : Resolver). is_named r.link.rows.rows (rows_of_faults (output_of r.output) (linking_of r) r.link.keys.keys.order) index) same)
+    ∙ ap (λ (b : Bool). b || is_row_named start.link.rows.rows (rows_of_faults (output_of start.output) (linking_of start) start.link.keys.keys.order) index) none
+    ∙ sym (ap (λ (r : Resolver). is_row_named r.link.rows.rows (rows_of_faults (output_of r.output) (linking_of r) r.link.keys.keys.order) index) same)
 
 pub faults_ended : (old new : Resolver) → new ≡ record old { end = new.end } → AreFaultsMarked old → AreFaultsMarked new
 faults_ended old new same marked = subst (λ (r : Resolver). AreFaultsMarked r) (sym same) marked

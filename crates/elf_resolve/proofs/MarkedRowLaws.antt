@@ -13,7 +13,7 @@ use Rattle.elf_resolve.specs.FoundStates.{found_word, has_offer_lines, is_multip
 use Rattle.elf_resolve.specs.KeyChains.{ChainTable, IsListFrom, first_number, number_after}
 use Rattle.elf_resolve.specs.KeyLines.{row_of_further}
 use Rattle.elf_resolve.specs.KeyLists.{entry_numbers, further_places}
-use Rattle.elf_resolve.specs.MarkedRows.{AreMarked, archive_of_row, further_row, is_named, names_row, rows_after_key, rows_found_after, rows_of_entries, rows_of_further, rows_of_offers, with_mark}
+use Rattle.elf_resolve.specs.MarkedRows.{AreMarked, archive_of_row, further_row, is_row_named, names_row, rows_after_key, rows_found_after, rows_of_entries, rows_of_further, rows_of_offers, with_mark}
 use Rattle.elf_resolve.specs.RowTables.{LinkRows}
 use Rattle.elf_resolve.specs.Resolved.{linking_of, open_archive}
 use Rattle.elf_resolve.specs.ShownLinks.{is_row}
@@ -50,8 +50,8 @@ pub marked_then : (rows : LinkRows) (xs ys : List (Option ℕ)) (a b c : List Bo
 marked_then rows xs ys a b c first second = record {
   count = second.count ∙ first.count;
   marks = λ room i below. second.marks (omega (arith, room, first.count)) i below
-      ∙ ap (λ (m : Bool). m || is_named rows.rows ys i) (first.marks room i below)
-      ∙ or_again (get_or a i false) (is_named rows.rows xs i) (is_named rows.rows ys i)
+      ∙ ap (λ (m : Bool). m || is_row_named rows.rows ys i) (first.marks room i below)
+      ∙ or_again (get_or a i false) (is_row_named rows.rows xs i) (is_row_named rows.rows ys i)
       ∙ ap (λ (m : Bool). get_or a i false || m) (sym (any_append (names_row rows.rows i) xs ys));
 }
 

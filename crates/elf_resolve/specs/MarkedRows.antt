@@ -57,19 +57,19 @@ abbrev pub names_row : List LinkRow → (index : ℕ) → Option ℕ → Bool
 names_row rows index None = false
 names_row rows index (Some row) = (row == index) || is_row (archive_of_row (slice_get rows row)) index
 
-abbrev pub is_named : List LinkRow → List (Option ℕ) → (index : ℕ) → Bool
-is_named rows named index = list_any (names_row rows index) named
+abbrev pub is_row_named : List LinkRow → List (Option ℕ) → (index : ℕ) → Bool
+is_row_named rows named index = list_any (names_row rows index) named
 
 -- THE ROWS THAT ARE NAMED ARE MARKED, with those that were, if there is a mark for each row for which
 -- there is room
 pub record AreMarked (rows : LinkRows) (named : List (Option ℕ)) (old new : List Bool) : Type 0 where
   pub count : length new ≡ length old
-  pub marks : rows.most ≤ length old → (index : ℕ) → index < length rows.rows → get_or new index false ≡ (get_or old index false || is_named rows.rows named index)
+  pub marks : rows.most ≤ length old → (index : ℕ) → index < length rows.rows → get_or new index false ≡ (get_or old index false || is_row_named rows.rows named index)
 
 -- at the end of a link those are marked, and no others, that the lines of its faults name
 abbrev pub AreFaultsMarked : Resolver → Type 0
 AreFaultsMarked link = (index : ℕ) → index < length link.link.rows.rows
-    → get_or link.problems.items index false ≡ is_named link.link.rows.rows (rows_of_faults (output_of link.output) (linking_of link) link.link.keys.keys.order) index
+    → get_or link.problems.items index false ≡ is_row_named link.link.rows.rows (rows_of_faults (output_of link.output) (linking_of link) link.link.keys.keys.order) index
 
 -- the rows in the lines after that of a key, by what the link says of it
 abbrev pub rows_found_after : Linking → (key : ℕ) → FoundState → List (Option ℕ)
