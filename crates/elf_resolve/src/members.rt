@@ -341,14 +341,14 @@ fn named_definition(
         (index_name keys.now.keys entry) }
 {
     let symbol = global_in(strings.bytes(symbols.rows), index)?;
-    if !is_row_named(&symbol, symbols.names, strings, entry, keys) {
+    if !is_named(&symbol, symbols.names, strings, entry, keys) {
         return None;
     }
     Some(is_data_definition(&symbol))
 }
 
 /// Returns whether a symbol has the name of an entry; one without a valid name has not.
-fn is_row_named(
+fn is_named(
     symbol: &Sym,
     names: HeldText,
     strings: &StringBuffer,

@@ -4,7 +4,7 @@ use Rattle.std.specs.Prelude.{bytes_eq}
 use Rattle.elf_model.specs.LinkPasses.{index_name}
 use Rattle.elf_model.specs.LinkSymbols.{is_that, link_name}
 use Rattle.elf_resolve.proofs.ObjectNameLaws.{named_that, unnamed_that}
-use Rattle.elf_resolve.proofs.members.is_row_named.Goals as goal
+use Rattle.elf_resolve.proofs.members.is_named.Goals as goal
 
 pub returns-in-Ok : goal.returns-in-Ok
 returns-in-Ok c = λ table at held.
