@@ -7,7 +7,7 @@ changed copies of their files.
 Without PROGRAM ./build makes it. --quick takes 150 jobs and 150 copies, instead of 1,500 and 3,000. Jobs have objects with
 references, commons, weak, absolute and unique definitions, visibilities, versions, groups of which one is kept, archives
 with an index of either size, whole archives and groups within groups. One job has a key for each order of three kinds of
-symbols. In each copy some bytes of one file differ: of its headers, its tables, its index. Then come archives that are
+symbols. With `--problems` only the lines come that make the status 1, and those of the files that they name. In each copy some bytes of one file differ: of its headers, its tables, its index. Then come archives that are
 malformed, limits at their edges, and budgets of all sizes. The last line is `N passed, N failed`, and the status is 0 only
 if none failed and one passed."""
 
@@ -58,6 +58,8 @@ class Jobs(Counts):
         lines, status = resolved.answer(words, 200)
         got = self.run(words)
         self.check(what, (lines, status, b""), got)
+        if not any(line.startswith(b"!") for line in lines):
+            self.check(f"{what}: problems", (problems_of(lines), status, b""), self.run(words, [*SMALL, "--problems"]))
         return got
 
     def three_kinds(self):
@@ -117,6 +119,26 @@ class Jobs(Counts):
                 is_so = (lines, status) == whole[:2] or status == 1 and lines[-1].endswith(b" budget") \
                     and are_front(lines[:-1], rows)
                 self.quiet_case(f"budget {budget} of job {number}", "" if is_so else repr(lines[-2:]))
+
+
+def problems_of(lines):
+    """Of the lines of a link that is not refused those that make its status 1, and those of the files that they name."""
+    named, kept, fails = set(), [], False
+    for line in lines:
+        letter, *fields = line.split(maxsplit=4)
+        if letter == b"G":
+            fails = fields[0] in (b"undef", b"order", b"multiple")
+        if letter in (b"G", b"M", b"O") and fails:
+            kept.append(line)
+            named.update(fields[1:3] if letter == b"G" else fields[:1])
+    rows = [line.split(maxsplit=4) for line in lines if line.startswith(b"I")]
+    named.update([archive for _, row, _, archive, *_ in rows if row in named])
+    shown = [line for line, (_, row, kind, *_) in zip(lines_of(b"I", lines), rows) if row in named or kind == b"missing"]
+    return shown + kept
+
+
+def lines_of(letter, lines):
+    return [line for line in lines if line.startswith(letter)]
 
 
 def are_front(lines, rows):
