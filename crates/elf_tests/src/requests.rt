@@ -50,7 +50,7 @@ pub(crate) struct Finished {
     pub(crate) stopped: u64,
 }
 
-/// Carries out a request on a source. No limit is left.
+/// Carries out a request on a source.
 pub(crate) fn carry_out<S: Source + Drop>(
     rt: &(impl Abort + AllocGlobal),
     request: &Request<'_>,
@@ -61,7 +61,6 @@ pub(crate) fn carry_out<S: Source + Drop>(
     let mut src = Counted::new(source);
     let mut out = Out::new(WriteSink::new(Vec::new(rt.alloc())));
     let answer = run(request, &mut src, store, &mut out);
-    assert!(rt; src.left() == None);
     Finished {
         text: out.into_inner().into_inner(),
         answer,
@@ -81,15 +80,29 @@ pub(crate) fn check_answer(
     cost: u128,
 ) -> Result<(), Fail> {
     let mut room = HeaderBuffer::new(rt.alloc(), request.limits.headers)?;
-    let mut store = room.store();
-    let finished = carry_out(rt, request, MemorySource::new(file), &mut store);
+    let finished = whole_answer(rt, request, file, &mut room.store());
+    check_finished(rt, &finished, text, status, cost);
+    Ok(())
+}
+
+/// Carries out a request on a file.
+fn whole_answer(
+    rt: &(impl Abort + AllocGlobal),
+    request: &Request<'_>,
+    file: &[u8],
+    store: &mut HeaderStore,
+) -> Finished {
+    carry_out(rt, request, MemorySource::new(file), store)
+}
+
+/// Checks what was written, the status, and that no more bytes were requested than these.
+fn check_finished(rt: &impl Abort, finished: &Finished, text: &[u8], status: u8, cost: u128) {
     assert!(rt;
         outcome(&finished.answer) == (status, ""),
         "status {status}"
     );
     assert!(rt; finished.text.as_slice() == text, "status {status}");
     assert!(rt; finished.asked <= cost, "{cost} bytes");
-    Ok(())
 }
 
 /// Carries out a request with its first read failing, then its second, and so on until none fails:
@@ -104,26 +117,47 @@ pub(crate) fn check_reads(
 ) -> Result<(), Fail> {
     let mut room = HeaderBuffer::new(rt.alloc(), request.limits.headers)?;
     let mut store = room.store();
-    let whole = carry_out(rt, request, MemorySource::new(file), &mut store);
-    for (k, at) in offsets.iter().enumerate() {
-        let source = FailSource::new(MemorySource::new(file), k as u64);
-        let failed = carry_out(rt, request, source, &mut store);
-        let (fault, at) = (SourceFault::Device, *at);
-        assert!(rt;
-            failed.answer == Err(RunFault::Source { fault, at }),
-            "read {k}"
-        );
-        assert!(rt; failed.stopped == at, "read {k}");
-        assert!(rt; outcome(&failed.answer) == (3, "elfsee: read fault"));
-        assert!(rt; whole.text.starts_with(&failed.text), "read {k}");
-        assert!(rt; failed.text.is_empty() || k >= unwritten, "read {k}");
-        let again = carry_out(rt, request, MemorySource::new(file), &mut store);
-        assert!(rt; again.text == whole.text && again.answer == whole.answer);
+    let whole = whole_answer(rt, request, file, &mut store);
+    for (read, at) in offsets.iter().enumerate() {
+        let failed = failed_answer(rt, request, file, read, &mut store);
+        check_failed(rt, &failed, &whole, *at, read >= unwritten);
+        let again = whole_answer(rt, request, file, &mut store);
+        check_same(rt, &again, &whole);
     }
-    let source = FailSource::new(MemorySource::new(file), offsets.len() as u64);
-    let unfailed = carry_out(rt, request, source, &mut store);
-    assert!(rt; unfailed.text == whole.text && unfailed.answer == whole.answer);
+    let unfailed = failed_answer(rt, request, file, offsets.len(), &mut store);
+    check_same(rt, &unfailed, &whole);
     Ok(())
+}
+
+/// Carries out a request on a file of which one read fails.
+fn failed_answer(
+    rt: &(impl Abort + AllocGlobal),
+    request: &Request<'_>,
+    file: &[u8],
+    read: usize,
+    store: &mut HeaderStore,
+) -> Finished {
+    let source = FailSource::new(MemorySource::new(file), read as u64);
+    carry_out(rt, request, source, store)
+}
+
+/// Checks an answer whose read at an offset failed: it is a prefix of the whole one, of no bytes
+/// unless some may be written before.
+fn check_failed(rt: &impl Abort, failed: &Finished, whole: &Finished, at: u64, may_write: bool) {
+    let fault = SourceFault::Device;
+    assert!(rt;
+        failed.answer == Err(RunFault::Source { fault, at }),
+        "read at {at}"
+    );
+    assert!(rt; failed.stopped == at, "read at {at}");
+    assert!(rt; outcome(&failed.answer) == (3, "elfsee: read fault"));
+    assert!(rt; whole.text.starts_with(&failed.text), "read at {at}");
+    assert!(rt; failed.text.is_empty() || may_write, "read at {at}");
+}
+
+/// Checks that an answer is the whole one.
+fn check_same(rt: &impl Abort, answer: &Finished, whole: &Finished) {
+    assert!(rt; answer.text == whole.text && answer.answer == whole.answer);
 }
 
 /// Carries out a request into a slice of no bytes, then of one, and so on up to its text less the
@@ -135,24 +169,40 @@ pub(crate) fn check_outputs(
 ) -> Result<(), Fail> {
     let mut room = HeaderBuffer::new(rt.alloc(), request.limits.headers)?;
     let mut store = room.store();
-    let whole = carry_out(rt, request, MemorySource::new(file), &mut store).text;
+    let whole = whole_answer(rt, request, file, &mut store).text;
     let mut buffer = [0; 2048];
     assert!(rt; whole.len() <= 2048);
     for room in 0..whole.len() {
-        let mut src = Counted::new(MemorySource::new(file));
-        let mut out = Out::new(SliceSink::new(&mut buffer[..room]));
-        assert!(rt; store.slots() == request.limits.headers);
-        let answer = run(request, &mut src, &mut store, &mut out);
-        let written = room as u128;
-        assert!(rt;
-            answer == Err(RunFault::Out(OutFault { written })),
-            "{room} bytes"
-        );
-        assert!(rt; outcome(&answer) == (3, "elfsee: write fault"));
-        assert!(rt;
-            out.into_inner().written() == &whole[..room],
-            "{room} bytes"
+        check_output(
+            rt,
+            request,
+            file,
+            &whole[..room],
+            &mut buffer[..room],
+            &mut store,
         );
     }
     Ok(())
+}
+
+/// Carries out a request into a slice that its text is too long for: it is filled with a prefix.
+fn check_output(
+    rt: &impl Abort,
+    request: &Request<'_>,
+    file: &[u8],
+    prefix: &[u8],
+    buffer: &mut [u8],
+    store: &mut HeaderStore,
+) {
+    assert!(rt; store.slots() == request.limits.headers);
+    let mut src = Counted::new(MemorySource::new(file));
+    let mut out = Out::new(SliceSink::new(buffer));
+    let answer = run(request, &mut src, store, &mut out);
+    let written = prefix.len() as u128;
+    assert!(rt;
+        answer == Err(RunFault::Out(OutFault { written })),
+        "{written} bytes"
+    );
+    assert!(rt; outcome(&answer) == (3, "elfsee: write fault"));
+    assert!(rt; out.into_inner().written() == prefix, "{written} bytes");
 }
