@@ -9,7 +9,7 @@ use elf_cli::{
 use elf_format::TableWriter;
 use elf_model::Format;
 use elf_requests::CommandRequest;
-use elf_source::{DeferredSink, LocatedSink, Out, OutFault, PageCache, Sink, WriteSink};
+use elf_source::{DeferredSink, LocatedSink, Out, OutFault, Sink, WriteSink};
 use elf_table::{HeaderBuffer, HeaderStore};
 use elf_walk::{
     CheckFiles, CheckOptions, DirWalk, FileRun, FileVisitor, ListFault, TraitOptions, TraitReport,
@@ -164,62 +164,31 @@ pub fn visit_files<R: Files + Print + Input + AllocGlobal, A: FileVisitor + Drop
 where
     R::File: FileExt,
 {
-    let Ok(rooms) = visit_rooms(rt, files.budget) else {
+    let Ok(mut walk) = DirWalk::new(rt.alloc()) else {
         return FilesEnd::NoMemory;
     };
-    let VisitRooms {
-        walk,
-        entries,
-        kept,
-        pages,
-    } = rooms;
-    let (mut walk, mut entries) = (walk, entries);
+    let Ok(mut entries) = vec![in rt.alloc(); 0u8; LIST_BYTES] else {
+        return FilesEnd::NoMemory;
+    };
+    let Ok(kept) = vec![in rt.alloc(); 0u8; kept_bytes(rt)] else {
+        return FilesEnd::NoMemory;
+    };
+    let Ok(pages) = allocate_pages(rt.alloc(), files.budget) else {
+        return FilesEnd::NoMemory;
+    };
     let lines = TableWriter::new(io::writer(rt), format);
     let output = LineSink::new(WriteSink::new(lines), kept);
     let LineBuffers { held, location } = buffers;
-    let out = Out::new(DeferredSink::new(located(output, location), held));
-    let mut many = FileRun::new(out, each, format, terminal, pages);
+    let mut many = FileRun::new(
+        Out::new(DeferredSink::new(located(output, location), held)),
+        each,
+        format,
+        terminal,
+        pages,
+    );
     let ended = visit_all(rt, files, &mut many, &mut walk, &mut entries);
     let (ended, _output) = end_many(ended, many);
     ended
-}
-
-/// The memory of a visit of many files.
-struct VisitRooms {
-    walk: DirWalk,
-    /// Where the paths of a list are.
-    entries: Vec<u8>,
-    /// Where lines of the output are before whole ones of them are written.
-    kept: Vec<u8>,
-    pages: PageCache,
-}
-
-/// Allocates the memory of a visit of many files.
-///
-/// # Errors
-/// Out of memory.
-fn visit_rooms<R: Files + AllocGlobal>(
-    rt: &R,
-    budget: Option<u64>,
-) -> Result<VisitRooms, ExitLine> {
-    let Ok(walk) = DirWalk::new(rt.alloc()) else {
-        return Err(OUT_OF_MEMORY);
-    };
-    let Ok(entries) = vec![in rt.alloc(); 0u8; LIST_BYTES] else {
-        return Err(OUT_OF_MEMORY);
-    };
-    let Ok(kept) = vec![in rt.alloc(); 0u8; kept_bytes(rt)] else {
-        return Err(OUT_OF_MEMORY);
-    };
-    match allocate_pages(rt.alloc(), budget) {
-        Ok(pages) => Ok(VisitRooms {
-            walk,
-            entries,
-            kept,
-            pages,
-        }),
-        Err(ending) => Err(ending),
-    }
 }
 
 /// Returns a sink over `output` that adds locations to rows, if there is a buffer for them.

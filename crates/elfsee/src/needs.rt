@@ -14,11 +14,9 @@ use elf_needs::{
 };
 use elf_source::{FileReader, Out, OutFault, Sink, Source, StreamSource, WriteSink, opened_path};
 use elf_table::HeaderStore;
-use std::alloc::Global;
 use std::fs;
 use std::io::{self, BufWriter, ErrorKind, Input, Stderr, Write};
 use std::os::unix::fs::FileExt;
-use std::path::PathBuf;
 use std::rt::Files;
 
 /// How many paths may be tried, unless the arguments say so.
@@ -77,39 +75,19 @@ where
         Ok(buffers) => buffers,
         Err(ending) => return Err(ending),
     };
-    match walk_rooms(rt.alloc(), asked) {
-        Ok(rooms) => needs_into(rt, asked, file, headers.store(), rooms, output),
-        Err(ending) => Err(ending),
-    }
-}
-
-/// Allocates the memory of a walk, and that for the files that it keeps open.
-///
-/// # Errors
-/// Out of memory.
-pub fn walk_rooms<S: Source + Drop>(
-    alloc: Global,
-    asked: &CommandArgs<'_>,
-) -> Result<(NeedsBuffers, OpenObjects<S>), ExitLine> {
-    let Ok(room) = NeedsBuffers::new(alloc) else {
+    let Ok(room) = NeedsBuffers::new(rt.alloc()) else {
         return Err(OUT_OF_MEMORY);
     };
-    match OpenObjects::new(alloc, MOST_OBJECTS, asked.symbols || asked.unused) {
-        Ok(opened) => Ok((room, opened)),
-        Err(_) => Err(OUT_OF_MEMORY),
-    }
+    let Ok(opened) = OpenObjects::new(rt.alloc(), MOST_OBJECTS, asked.symbols || asked.unused)
+    else {
+        return Err(OUT_OF_MEMORY);
+    };
+    needs_into(rt, asked, file, headers.store(), (room, opened), output)
 }
 
-/// A program that is open: its path as it is given and with all links resolved, and the loader's
-/// cache that is searched, if there is one.
-struct OpenedProgram<'p, S: Source + Drop> {
-    path: &'p str,
-    real: PathBuf,
-    source: S,
-    cache: Option<LibraryCache<S>>,
-}
-
-/// Opens the program, and lists the objects that it needs to an output.
+/// Opens the program, and lists the objects that it needs to an output. The directory of the
+/// program is found from its path with all links resolved, which allocates before the program is
+/// opened.
 ///
 /// # Errors
 /// Out of memory, or the program cannot be opened.
@@ -124,75 +102,36 @@ fn needs_into<R: Files + AllocGlobal, W: Write + Drop>(
 where
     R::File: FileExt,
 {
-    match open_with_cache(rt, asked, file) {
-        Ok(program) => Ok(list_opened(rt, asked, program, store, rooms, output)),
-        Err(ending) => Err(ending),
-    }
-}
-
-/// Opens a program and the loader's cache. The directory of the program is found from its path with
-/// all links resolved, which allocates before the program is opened.
-///
-/// # Errors
-/// Out of memory, or the program or a cache cannot be opened.
-fn open_with_cache<'p, R: Files + AllocGlobal>(
-    rt: &R,
-    asked: &CommandArgs<'_>,
-    path: &'p str,
-) -> Result<OpenedProgram<'p, StreamSource<FileReader<R::File>>>, ExitLine>
-where
-    R::File: FileExt,
-{
-    let real = match rt.canonicalize(rt.alloc(), opened_path(path)) {
+    let (room, opened) = rooms;
+    let mut opened = opened;
+    let real = match rt.canonicalize(rt.alloc(), opened_path(file)) {
         Ok(real) => real,
         Err(error) if error.kind() == ErrorKind::OutOfMemory => return Err(OUT_OF_MEMORY),
         Err(_) => return Err(CANNOT_OPEN),
     };
-    let source = match open_program(rt, path) {
+    let source = match open_program(rt, file) {
         Ok(source) => source,
         Err(ending) => return Err(ending),
     };
-    match loader_cache(rt, asked) {
-        Ok(cache) => Ok(OpenedProgram {
-            path,
-            real,
-            source,
-            cache,
-        }),
-        Err(ending) => Err(ending),
-    }
-}
-
-/// Lists the objects that an open program needs, and writes the rest of the output.
-fn list_opened<R: Files, W: Write + Drop>(
-    rt: &R,
-    asked: &CommandArgs<'_>,
-    program: OpenedProgram<'_, StreamSource<FileReader<R::File>>>,
-    store: HeaderStore<'_>,
-    rooms: (NeedsBuffers, OpenFiles<R::File>),
-    output: BufWriter<W>,
-) -> ExitLine
-where
-    R::File: FileExt,
-{
-    let OpenedProgram {
-        path,
-        real,
-        source,
-        cache,
-    } = program;
-    let real = real.as_str().as_bytes();
-    let (room, opened) = rooms;
-    let mut opened = opened;
+    let cache = match loader_cache(rt, asked) {
+        Ok(cache) => cache,
+        Err(ending) => return Err(ending),
+    };
     let mut system = SystemFiles::new(rt, cache);
-    let program = system.program(source, real);
+    let program = system.program(source, real.as_str().as_bytes());
     let out = Out::new(WriteSink::new(output));
-    let settings = settings(asked, last_dirs(rt, asked));
-    let mut walk = DependencyWalk::new(&settings, store, room, out);
-    let listed = walk.list(&mut system, program, path.as_bytes(), real, &mut opened);
+    let default = last_dirs(rt, asked);
+    let mut walk = DependencyWalk::new(&settings(asked, default), store, room, out);
+    let listed = walk.list(
+        &mut system,
+        program,
+        file.as_bytes(),
+        real.as_str().as_bytes(),
+        &mut opened,
+    );
     let listed = list_after(&mut walk, listed, asked.symbols, asked.unused, &mut opened);
     let (ending, _output) = end_run(ended(listed), walk.into_out().into_inner().into_inner());
-    ending
+    Ok(ending)
 }
 
 /// Opens the file at a path. It is not inlined: the stack of its caller would hold the buffer of the

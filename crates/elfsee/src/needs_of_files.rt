@@ -2,10 +2,11 @@
 ghost use Rattle.std.specs.Prelude.{◌≡◌};
 
 use crate::many::{LineBuffers, VisitedPaths, ending_line, visit_files};
-use crate::needs::{last_dirs, loader_cache, settings, walk_rooms};
+use crate::needs::{last_dirs, loader_cache, settings};
 use crate::needs_report::{NeedsReport, NeedsRule};
 use elf_cli::{CommandArgs, ExitLine, OUT_OF_MEMORY};
 use elf_library::SystemFiles;
+use elf_needs::{MOST_OBJECTS, NeedsBuffers, OpenObjects};
 use elf_table::HeaderBuffer;
 use std::io::{Input, Stderr};
 use std::os::unix::fs::FileExt;
@@ -25,50 +26,40 @@ pub fn list_needs_of_files<R: Files + Print + Input + AllocGlobal>(
 where
     R::File: FileExt,
 {
-    match new_report(rt, asked) {
-        Ok(report) => {
-            let buffers = LineBuffers {
-                held: Vec::new(rt.alloc()),
-                location: None,
-            };
-            let format = asked.caps.style.format;
-            let files = VisitedPaths {
-                paths: &asked.paths,
-                list: asked.list,
-                budget: asked.caps.limits.budget,
-            };
-            ending_line(visit_files(rt, files, report, buffers, format, terminal))
-        }
-        Err(ending) => Err(ending),
-    }
-}
-
-/// Allocates the memory of a visitor, and opens the loader's cache.
-///
-/// # Errors
-/// Out of memory, or a cache cannot be opened.
-fn new_report<'r, 'a, R: Files + AllocGlobal>(
-    rt: &'r R,
-    asked: &CommandArgs<'a>,
-) -> Result<NeedsReport<'r, 'a, R>, ExitLine>
-where
-    R::File: FileExt,
-{
     let Ok(headers) = HeaderBuffer::new(rt.alloc(), asked.caps.limits.headers) else {
         return Err(OUT_OF_MEMORY);
     };
-    let rooms = match walk_rooms(rt.alloc(), asked) {
-        Ok(rooms) => rooms,
+    let Ok(room) = NeedsBuffers::new(rt.alloc()) else {
+        return Err(OUT_OF_MEMORY);
+    };
+    let Ok(opened) = OpenObjects::new(rt.alloc(), MOST_OBJECTS, asked.symbols || asked.unused)
+    else {
+        return Err(OUT_OF_MEMORY);
+    };
+    let cache = match loader_cache(rt, asked) {
+        Ok(cache) => cache,
         Err(ending) => return Err(ending),
     };
-    match loader_cache(rt, asked) {
-        Ok(cache) => {
-            let system = SystemFiles::new(rt, cache);
-            let rule = rule_of(asked, last_dirs(rt, asked));
-            Ok(NeedsReport::new(rt, system, rule, headers, rooms))
-        }
-        Err(ending) => Err(ending),
-    }
+    let system = SystemFiles::new(rt, cache);
+    let report = NeedsReport::new(
+        rt,
+        system,
+        rule_of(asked, last_dirs(rt, asked)),
+        headers,
+        (room, opened),
+    );
+    let buffers = LineBuffers {
+        held: Vec::new(rt.alloc()),
+        location: None,
+    };
+    let format = asked.caps.style.format;
+    let files = VisitedPaths {
+        paths: &asked.paths,
+        list: asked.list,
+        budget: asked.caps.limits.budget,
+    };
+    let ended = visit_files(rt, files, report, buffers, format, terminal);
+    ending_line(ended)
 }
 
 /// Returns the rule by which a request lists the needs of each file, with the directories that are
