@@ -58,8 +58,7 @@ class Jobs(Counts):
         lines, status = resolved.answer(words, 200)
         got = self.run(words)
         self.check(what, (lines, status, b""), got)
-        if not any(line.startswith(b"!") for line in lines):
-            self.check(f"{what}: problems", (problems_of(lines), status, b""), self.run(words, [*SMALL, "--problems"]))
+        self.check(f"{what}: problems", (problems_of(lines), status, b""), self.run(words, [*SMALL, "--problems"]))
         return got
 
     def three_kinds(self):
@@ -122,7 +121,7 @@ class Jobs(Counts):
 
 
 def problems_of(lines):
-    """Of the lines of a link that is not refused those that make its status 1, and those of the files that they name."""
+    """Of the lines of a link those that make its status 1, and those of the files that they name."""
     named, kept, fails = set(), [], False
     for line in lines:
         letter, *fields = line.split(maxsplit=4)
@@ -133,8 +132,8 @@ def problems_of(lines):
             named.update(fields[1:3] if letter == b"G" else fields[:1])
     rows = [line.split(maxsplit=4) for line in lines if line.startswith(b"I")]
     named.update([archive for _, row, _, archive, *_ in rows if row in named])
-    shown = [line for line, (_, row, kind, *_) in zip(lines_of(b"I", lines), rows) if row in named or kind == b"missing"]
-    return shown + kept
+    shown = [line for line, (_, row, kind, *_) in zip(lines_of(b"I", lines), rows) if row in named or kind in (b"missing", b"refused")]
+    return shown + kept + lines_of(b"!", lines)
 
 
 def lines_of(letter, lines):

@@ -72,11 +72,25 @@ class Places:
         return (at, 56), (offset, filesz), (address, memsz) if self.number(at, 4) in IN_MEMORY else NONE
 
     def of_Y(self, row):
-        at = self.start(row["table"]) + 24 * row["index"]
+        at = self.symbols(row["table"]) + 24 * row["index"]
         kind, place = self.content[at + 4] % 16, self.number(at + 6, 2)
         value, size = struct.unpack_from("<2Q", self.content, at + 8)
         has = kind not in (3, 4, 6) and (0 < place < 0xff00 or place == 0xfff1)
         return (at, 24), NONE, (value, size or 1) if has else NONE
+
+    def symbols(self, index):
+        """The offset of the symbols of a section, or without section headers of a segment of dynamic entries, one of which has their address."""
+        if self.shnum:
+            return self.start(index)
+        at = self.number(self.phoff + 56 * index + 8, 8)
+        while self.number(at, 8) != 6:
+            at += 16
+        address = self.number(at + 8, 8)
+        for head in range(self.phoff, self.phoff + 56 * self.phnum, 56):
+            offset, start, _, size = struct.unpack_from("<4Q", self.content, head + 8)
+            if self.number(head, 4) == 1 and start <= address < start + size:
+                return offset + address - start
+        raise ValueError(f"no segment has {address:#x}")
 
     def of_R(self, row):
         if row["table"] not in self.entries:

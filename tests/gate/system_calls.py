@@ -8,7 +8,7 @@ its system calls is observed by ptrace: which file is looked at, opened and clos
 length is sought, each read with its offset and its size, each write with its size, each large
 allocation. The expected calls are computed from the rules in docs/ARCHITECTURE.md: a listing asks for whole rows of
 up to 4,096 bytes, and for no byte of a table twice. With a read budget each of these is one call. Without one, what
-lies in one page of 4,096 bytes is read by that page, and the last 1,024 pages are kept.
+lies in one page of 4,096 bytes is read by that page, and the last 8,192 pages are kept.
 
 PROGRAM is the built program (./build makes it if none is given). It needs only Python 3.
 If the system lets no process trace another, it says so, and counts nothing. The last line is
@@ -43,8 +43,8 @@ ANONYMOUS = 0x20
 NOT_TRACED, NOT_STARTED = 77, 78
 FAR, FARTHER, HEADERS = 0x110000000, 0x120000000, 0x140000000
 PAGE, BUFFER = 4096, 65536
-# How many pages are kept, and how many places there are for their indexes.
-KEPT, PLACES = 1024, 4096
+# How many pages are kept, how many places for their indexes there are at first, and how many of each page.
+KEPT, PLACES, PLACES_OF_PAGE = 8192, 256, 4
 BUDGET = ("--max-read", "1000000000000")
 
 counts = Counts()
@@ -232,7 +232,7 @@ def by_pages(asked, length):
     """The reads of a file of this length for what is asked of it without a read budget."""
     reads, kept, places, following = [], [], [0] * PLACES, 0
     for at, size in asked:
-        place, begin = at // PAGE % PLACES, at - at % PAGE
+        place, begin = at // PAGE % len(places), at - at % PAGE
         held = kept[places[place]] if places[place] < len(kept) else (0, 0)
         if held[0] <= at and at + size <= sum(held):
             continue
@@ -242,6 +242,11 @@ def by_pages(asked, length):
         page = (begin, min(PAGE, length - begin))
         reads.append(page)
         if len(kept) < KEPT:
+            if len(kept) >= len(places) // PLACES_OF_PAGE:
+                places += [0] * len(places)
+                for index, (start, _) in enumerate(kept):
+                    places[start // PAGE % len(places)] = index
+                place = at // PAGE % len(places)
             places[place] = len(kept)
             kept.append(page)
         else:
@@ -379,18 +384,18 @@ class Cases:
         check("6,000 symbols in a table: writes", first_difference(filled_rows(rows, [len(columns), 1]), run.writes))
 
     def scattered_names(self):
-        """3,000 symbols, whose names are in 1,500 pages, each in the page after that of the one before it."""
-        strings = b"".join((b"\0name_%04d" % number).ljust(PAGE, b"\0") for number in range(1500))
-        symbols = b"".join(symbol(1 + PAGE * (number % 1500)) for number in range(3000))
+        """18,000 symbols, whose names are in 9,000 pages, each in the page after that of the one before it."""
+        strings = b"".join((b"\0name_%04d" % number).ljust(PAGE, b"\0") for number in range(9000))
+        symbols = b"".join(symbol(1 + PAGE * (number % 9000)) for number in range(18000))
         path = made(self.folder, "scattered",
                     [section(2, FAR, len(symbols), link=2, entry=24), section(3, FARTHER, len(strings))],
                     {FAR: symbols, FARTHER: strings})
-        asked = self.run("names in 1,500 pages", path, "show", *BUDGET, "--only", "symbols", path).reads
+        asked = self.run("names in 9,000 pages", path, "show", *BUDGET, "--only", "symbols", path).reads
         wanted = by_pages(asked, os.path.getsize(path))
-        run = self.run("names in 1,500 pages by pages", path, "show", "--only", "symbols", path)
-        check(f"names in 1,500 pages: {len(wanted)} reads", first_difference(wanted, run.reads))
+        run = self.run("names in 9,000 pages by pages", path, "show", "--only", "symbols", path)
+        check(f"names in 9,000 pages: {len(wanted)} reads", first_difference(wanted, run.reads))
         again = len(wanted) - len(set(wanted))
-        check(f"names in 1,500 pages: {again} pages are read once more", "" if 1000 < again < 2000 else str(again))
+        check(f"names in 9,000 pages: {again} pages are read once more", "" if 8000 < again < 10000 else str(again))
 
     def long_names(self):
         """100 symbols with names of 4,096 bytes."""

@@ -234,11 +234,15 @@ def check_machine(counts, program, places, hardening):
         return
     paths = sorted(elf_files(places or ["/"]))
     told = told_of(program, paths)
-    refused, kinds, rules = collections.Counter(), collections.Counter(), collections.Counter()
+    refused, kinds, rules, gone = collections.Counter(), collections.Counter(), collections.Counter(), 0
     with concurrent.futures.ThreadPoolExecutor(os.cpu_count() or 1) as pool:
         rows = [told.get(spelt(os.fsencode(path))) for path in paths]
         answers = pool.map(compare, paths, rows, [hardening] * len(paths))
         for path, row, (wrong, met) in zip(paths, rows, answers):
+            # A file may be removed while the others are compared.
+            if not os.path.exists(path):
+                gone += 1
+                continue
             rules.update(met)
             if isinstance(row, str):
                 refused[row if not is_64(path) else f"{row} {path}"] += 1
@@ -249,7 +253,7 @@ def check_machine(counts, program, places, hardening):
         print(f"{count} files: {rule}")
     for line, count in sorted(refused.items()):
         print(f"{count} refused: {line}")
-    print(f"{len(paths)} files,", ", ".join(f"{count} {kind}" for kind, count in sorted(kinds.items())))
+    print(f"{len(paths)} files, {gone} removed meanwhile,", ", ".join(f"{count} {kind}" for kind, count in sorted(kinds.items())))
 
 
 # ---------------------------------------------------------------------------

@@ -11,8 +11,8 @@ use std::io::{BufWriter, Write};
 use std::os::unix::fs::{FileExt, FileTypeExt};
 use std::rt::Files;
 
-/// How many pages of a file are cached.
-const FILE_PAGES: u16 = 1024;
+/// How many pages of a file are cached: 32 MiB.
+const FILE_PAGES: u16 = 8192;
 
 /// Allocates memory for so many headers of a file, and the buffer of an output.
 ///

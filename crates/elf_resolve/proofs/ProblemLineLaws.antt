@@ -8,7 +8,7 @@ use Rattle.elf_resolve.specs.LinkerNames.{output_of}
 use Rattle.elf_resolve.specs.MarkedRows.{AreFaultsMarked}
 use Rattle.elf_resolve.specs.ProblemLines.{is_problem_row, lines_of_problem_rows, lines_of_problems}
 use Rattle.elf_resolve.specs.Resolved.{linking_of}
-use Rattle.elf_resolve.specs.ShownLinks.{is_refused_kind, lines_of_row, row_if_shown, row_shown, shown_end, shown_link, shown_rows}
+use Rattle.elf_resolve.specs.ShownLinks.{is_refused_kind, is_shown_row, lines_of_row, marks_shown, row_if_shown, row_shown, shown_end, shown_link, shown_rows}
 use Rattle.elf_resolve.specs.declared.resolver.LinkEnd.{LinkEnd}
 use Rattle.elf_resolve.specs.declared.resolver.Resolver.{Resolver}
 
@@ -17,6 +17,7 @@ module _ (format : Format) (names : FileNames) (link : Resolver) (ends : link.en
   rows_are index [] within = refl
   rows_are index (row ∷ rows) within =
       ap (λ (e : Option LinkEnd). row_if_shown true format names link index (row_shown e index row) ++ shown_rows true format names link (index + 1) rows) ends
+      ∙ ap (λ (e : Option LinkEnd). (if is_shown_row true (marks_shown link e) index row.kind then lines_of_row true format names link.link.keys.keys index row else []) ++ shown_rows true format names link (index + 1) rows) ends
       ∙ ap (λ (b : Bool). (if is_missing row.kind || (is_refused_kind row.kind || b) then lines_of_row true format names link.link.keys.keys index row else []) ++ shown_rows true format names link (index + 1) rows) (marked index (omega (arith, within)))
       ∙ ap (λ (l : List (List ℕ)). (if is_problem_row format names (output_of link.output) (linking_of link) index row.kind then lines_of_row true format names link.link.keys.keys index row else []) ++ l) (rows_are (index + 1) rows (omega (arith, within)))
 

@@ -19,7 +19,7 @@ use Rattle.elf_resolve.specs.LinkTexts.{WritesText}
 use Rattle.elf_resolve.specs.LinkerNames.{output_of}
 use Rattle.elf_resolve.specs.MemberNames.{RowName, RowsAscend, name_of_row_in}
 use Rattle.elf_resolve.specs.Resolved.{linking_of}
-use Rattle.elf_resolve.specs.ShownLinks.{ends_at_row, is_shown_row, lines_of_reason, lines_of_row, reason_shown, row_if_shown, row_shown, shown_end, shown_keys, shown_link, shown_rows, shown_status, status_if}
+use Rattle.elf_resolve.specs.ShownLinks.{ends_at_row, is_shown_row, lines_of_reason, lines_of_row, marks_shown, reason_shown, row_if_shown, row_shown, shown_end, shown_keys, shown_link, shown_rows, shown_status, status_if}
 use Rattle.elf_resolve.specs.StaticLinks.{AreRowsNamed, IsNameOfRow}
 use Rattle.elf_resolve.specs.declared.resolver.LinkEnd.{LinkEnd}
 use Rattle.elf_resolve.specs.declared.resolver.Resolver.{Resolver}
@@ -63,13 +63,13 @@ same_file text names held end index row shown same named =
     by false = named
 
 -- A ROW THAT IS CHOSEN
-pub row_chosen : (problems : Bool) (format : Format) (names : FileNames) (link : Resolver) (index : ℕ) (shown wanted : LinkRow) → shown ≡ wanted → is_shown_row problems link.problems.items index shown.kind ≡ true
+pub row_chosen : (problems : Bool) (format : Format) (names : FileNames) (link : Resolver) (index : ℕ) (shown wanted : LinkRow) → shown ≡ wanted → is_shown_row problems (marks_shown link link.end) index shown.kind ≡ true
     → concat (lines_of_row problems format names link.link.keys.keys index shown) ≡ concat (row_if_shown problems format names link index wanted)
 row_chosen problems format names link index shown wanted same is =
     sym (ap (λ (b : Bool). concat (if b then lines_of_row problems format names link.link.keys.keys index shown else [])) is)
     ∙ ap (λ (r : LinkRow). concat (row_if_shown problems format names link index r)) same
 
-pub row_hidden : (problems : Bool) (format : Format) (names : FileNames) (link : Resolver) (index : ℕ) (shown wanted : LinkRow) (a : OutState) → shown ≡ wanted → is_shown_row problems link.problems.items index shown.kind ≡ false
+pub row_hidden : (problems : Bool) (format : Format) (names : FileNames) (link : Resolver) (index : ℕ) (shown wanted : LinkRow) (a : OutState) → shown ≡ wanted → is_shown_row problems (marks_shown link link.end) index shown.kind ≡ false
     → SinkTakes a a (concat (row_if_shown problems format names link index wanted))
 row_hidden problems format names link index shown wanted a same isnt =
     subst (λ (text : List ℕ). SinkTakes a a text)

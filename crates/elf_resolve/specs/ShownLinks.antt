@@ -50,6 +50,11 @@ abbrev pub is_refused_kind : LinkRowKind → Bool
 is_refused_kind kind.Refused = true
 is_refused_kind _ = false
 
+-- the marks of the rows that the lines of faults name; a link that is refused has no such lines
+abbrev pub marks_shown : Resolver → Option LinkEnd → List Bool
+marks_shown link None = link.problems.items
+marks_shown link (Some end) = []
+
 -- of all rows or those of files that are missing, refused, or marked since a fault names them
 abbrev pub is_shown_row : (problems : Bool) → (marks : List Bool) → (index : ℕ) → LinkRowKind → Bool
 is_shown_row problems marks index kind = not problems || (is_missing kind || (is_refused_kind kind || get_or marks index false))
@@ -69,7 +74,7 @@ lines_of_row problems format names keys index row =
 module _ (problems : Bool) (format : Format) (names : FileNames) (link : Resolver) where
   abbrev pub row_if_shown : (index : ℕ) → LinkRow → List (List ℕ)
   row_if_shown index row =
-      if is_shown_row problems link.problems.items index row.kind then lines_of_row problems format names link.link.keys.keys index row else []
+      if is_shown_row problems (marks_shown link link.end) index row.kind then lines_of_row problems format names link.link.keys.keys index row else []
 
   abbrev pub shown_rows : (index : ℕ) → List LinkRow → List (List ℕ)
   shown_rows index [] = []

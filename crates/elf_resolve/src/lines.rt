@@ -7,7 +7,7 @@ ghost use Rattle.elf_model.specs.declared.link_states.LinkRow.{LinkRow as Row};
 ghost use Rattle.elf_source.specs.Output.{OutPuts};
 ghost use Rattle.elf_resolve.specs.LinkTexts.{WritesText};
 ghost use Rattle.elf_resolve.specs.MemberNames.{RowsAscend};
-ghost use Rattle.elf_resolve.specs.ShownLinks.{ends_at_row, in_columns, is_refused_kind, is_shown_row, lines_of_row, reason_shown, row_if_shown, row_shown, shown_link, shown_rows, shown_status, status_if};
+ghost use Rattle.elf_resolve.specs.ShownLinks.{ends_at_row, in_columns, is_refused_kind, is_shown_row, lines_of_row, marks_shown, reason_shown, row_if_shown, row_shown, shown_link, shown_rows, shown_status, status_if};
 ghost use Rattle.elf_resolve.specs.StaticLinks.{AreKeysListed, AreRowsNamed, IsNameOfRow};
 
 use crate::key_lines::{either, show_keys};
@@ -218,9 +218,19 @@ fn is_missing(kind: LinkRowKind) -> bool
 
 /// Returns `true` if the lines of a row are to be written.
 fn is_chosen(link: &Resolver<'_>, index: u32, kind: LinkRowKind, problems: bool) -> bool
-    ensures { result ≡ is_shown_row problems link.now.problems.items index kind }
+    ensures { result ≡ is_shown_row problems (marks_shown link.now link.now.end) index kind }
 {
-    !problems || is_missing(kind) || is_refused(kind) || link.is_in_problem(index)
+    !problems || is_missing(kind) || is_refused(kind) || is_named(link, index)
+}
+
+/// Returns `true` if the lines of a fault name a row. A link that is refused has no such lines.
+fn is_named(link: &Resolver<'_>, index: u32) -> bool
+    ensures { result ≡ get_or (marks_shown link.now link.now.end) index false }
+{
+    match link.end {
+        Some(_) => false,
+        None => link.is_in_problem(index),
+    }
 }
 
 /// Returns a row as it is shown, with the kind that it has at the end. If its file is refused, it is

@@ -40,6 +40,11 @@ impl Page {
         }
     }
 
+    /// Returns the offset of its bytes in the file.
+    pub(crate) fn at(&self) -> u64 {
+        self.at
+    }
+
     /// Fills `out` with the bytes at the file offset `at`, if all of them are held.
     pub(crate) fn give(&self, at: u64, out: &mut [u8]) -> bool
         ensures { GivesHeld self.now at out.old out.new result }

@@ -9,8 +9,11 @@ use std::alloc::{AllocError, Global};
 use std::marker::Model;
 use std::mem;
 
-/// How many indexes there are for each page that may be cached.
+/// How many indexes there are for each page.
 const INDEXES: usize = 4;
+
+/// How many pages have indexes at first. Whenever all that have some are cached, twice as many have.
+const FIRST_PAGES: usize = 64;
 
 /// The pages of a file that were read last, as many as there is room for.
 #[derive(Drop)]
@@ -20,7 +23,8 @@ pub struct PageCache {
     most: usize,
     // The index of the page that is replaced next.
     next: usize,
-    // The index of a page that is cached, by the remainder of its number in the file.
+    // The index of a page that is cached, by the remainder of its number in the file. There are
+    // `INDEXES` of each page, or more.
     indexes: Vec<u16>,
 }
 
@@ -41,8 +45,8 @@ impl PageCache {
         PageCache::over(Vec::new(alloc), Vec::new(alloc), 0)
     }
 
-    /// Creates an empty cache, and allocates the memory of `most` pages of 4,096 bytes, each of
-    /// which is written to when it is read, and 8 bytes more for each.
+    /// Creates an empty cache, and allocates the memory of `most` pages of 4,096 bytes and 8 bytes
+    /// more for each. It is written to only as far as pages are read.
     ///
     /// # Errors
     /// Out of memory.
@@ -51,7 +55,8 @@ impl PageCache {
     {
         let most = usize::from(most);
         let pages = Vec::with_capacity(alloc, most)?;
-        let indexes = vec![in alloc; 0u16; most * INDEXES]?;
+        let mut indexes = Vec::with_capacity(alloc, most * INDEXES)?;
+        indexes.resize(most.min(FIRST_PAGES) * INDEXES, 0)?;
         Ok(PageCache::over(pages, indexes, most))
     }
 
@@ -86,7 +91,7 @@ impl PageCache {
     pub(crate) fn give(&self, at: u64, out: &mut [u8]) -> bool
         ensures { GivesAny self.now at out.old out.new result }
     {
-        let Some(index) = self.indexes.get(self.index_place(at)) else {
+        let Some(index) = self.indexes.get(index_place(&self.indexes, at)) else {
             return false;
         };
         match self.pages.get(usize::from(*index)) {
@@ -103,10 +108,7 @@ impl PageCache {
         ensures held { ReadsPage (S.seen source.old) self.old self.new }
     {
         let index = self.next_index();
-        let place = self.index_place(at);
-        if let Some(known) = self.indexes.get_mut(place) {
-            *known = u16::try_from(index).unwrap_or(u16::MAX);
-        }
+        set_index(&mut self.indexes, at, index);
         if index < self.pages.len() {
             self.pages[index].load(source, at);
         }
@@ -118,6 +120,9 @@ impl PageCache {
     {
         let count = self.pages.len();
         if count < self.most {
+            if count >= self.indexes.len() / INDEXES {
+                self.add_indexes();
+            }
             let _ = self.pages.push(Page::new());
             return count;
         }
@@ -126,8 +131,33 @@ impl PageCache {
         index
     }
 
-    /// Returns the place of the index of the page that contains a file offset.
-    fn index_place(&self, at: u64) -> usize {
-        (at / PAGE_BYTES as u64) as usize % self.indexes.len().max(1)
+    /// Doubles how many indexes there are, and sets those of all pages again.
+    fn add_indexes(&mut self)
+        ensures { self.new ≡ self.old }
+    {
+        let count = self.indexes.len().saturating_mul(2);
+        if self.indexes.resize(count, 0).is_ok() {
+            set_indexes(&mut self.indexes, &self.pages);
+        }
     }
+}
+
+/// Sets the indexes of all pages.
+fn set_indexes(indexes: &mut [u16], pages: &[Page]) {
+    for index in 0..pages.len() {
+        set_index(indexes, pages[index].at(), index);
+    }
+}
+
+/// Sets the index of the page that contains a file offset.
+fn set_index(indexes: &mut [u16], at: u64, index: usize) {
+    let place = index_place(indexes, at);
+    if let Some(known) = indexes.get_mut(place) {
+        *known = u16::try_from(index).unwrap_or(u16::MAX);
+    }
+}
+
+/// Returns the place of the index of the page that contains a file offset.
+fn index_place(indexes: &[u16], at: u64) -> usize {
+    (at / PAGE_BYTES as u64) as usize % indexes.len().max(1)
 }
