@@ -9,7 +9,6 @@ pub mod Lines
 pub mod Listings
 pub mod Marked
 pub mod Options
-pub mod OutputBuffers
 pub mod Pieces
 pub mod Reading
 pub mod Version

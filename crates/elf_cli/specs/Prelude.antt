@@ -6,6 +6,5 @@ pub use Rattle.elf_cli.specs.Endings.{EndsWords, ProgramEnds, PutsRest, wants_re
 pub use Rattle.elf_cli.specs.Faults.{IsFaultOf, IsOneOf, IsUnasked}
 pub use Rattle.elf_cli.specs.UsageFaults.{HasUsageFault, usage_fault, selects_rows}
 pub use Rattle.elf_cli.specs.Lines.{GivesFront}
-pub use Rattle.elf_cli.specs.OutputBuffers.{Buffered, buffer_contents}
 pub use Rattle.elf_cli.specs.Pieces.{pieces}
 pub use Rattle.elf_cli.specs.Reading.{AreMatched, AreRead, AreRefused, AreRejected}

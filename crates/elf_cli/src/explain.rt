@@ -5,14 +5,13 @@ ghost use Rattle.elf_cli.specs.Version.{VersionEnds};
 use crate::cause_texts::all_causes;
 use crate::exit_lines::{BAD_WORDS, ExitLine, OUT_OF_MEMORY};
 use crate::link_texts::{link_causes, link_states};
-use crate::output_buffer::OutputBuffer;
 use crate::outputs::{ERROR_LINE_BYTES, OUTPUT_BYTES, end_answer, write_rest};
 use crate::state_texts::all_states;
 use elf_format::show_escaped_text;
 use elf_source::{Out, OutFault, Sink, WriteSink};
 use elf_table::RunFault;
 use std::alloc::{AllocError, Global};
-use std::io::{self, Stderr, Write};
+use std::io::{self, BufWriter, Stderr, Write};
 use strsim::levenshtein;
 
 /// A cause or a state, and what it means.
@@ -38,14 +37,14 @@ pub fn report_explanations<R: Print + AllocGlobal>(
             return Err(unknown(rt.alloc(), word, errors));
         }
     }
-    match OutputBuffer::with_capacity(rt.alloc(), OUTPUT_BYTES, io::writer(rt)) {
+    match BufWriter::with_capacity(rt.alloc(), OUTPUT_BYTES, io::writer(rt)) {
         Ok(output) => Ok(explanations_into(words, output)),
         Err(_) => Err(OUT_OF_MEMORY),
     }
 }
 
 /// Writes the explanations of these words, or all if there are none, and the rest of the output.
-fn explanations_into<W: Write + Drop>(words: &[&str], output: OutputBuffer<W>) -> ExitLine
+fn explanations_into<W: Write + Drop>(words: &[&str], output: BufWriter<W>) -> ExitLine
     ensures { VersionEnds result.0 result.1.now }
 {
     let mut out = Out::new(WriteSink::new(output));
@@ -151,7 +150,7 @@ fn unknown(alloc: Global, word: &str, errors: Stderr) -> ExitLine
 fn report_unknown(alloc: Global, word: &str, errors: Stderr) -> Result<(), AllocError> {
     let nearest = nearest(alloc, word)?;
     let text = format!(in alloc; "elfsee: no such cause: {word}; did you mean {nearest}?\n")?;
-    let Ok(errors) = OutputBuffer::with_capacity(alloc, ERROR_LINE_BYTES, errors) else {
+    let Ok(errors) = BufWriter::with_capacity(alloc, ERROR_LINE_BYTES, errors) else {
         return Err(AllocError);
     };
     let mut out = Out::new(WriteSink::new(errors));

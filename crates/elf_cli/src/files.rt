@@ -2,13 +2,12 @@
 ghost use Rattle.std.specs.Prelude.{◌≡◌, ◌≤◌, ◌⊎◌, IfErr, IfOk, codes};
 
 use crate::exit_lines::{CANNOT_OPEN, ExitLine, OUT_OF_MEMORY, READ_FAULT};
-use crate::output_buffer::OutputBuffer;
 use crate::outputs::OUTPUT_BYTES;
 use elf_source::{CachedSource, FileReader, PageCache, StreamSource, opened_path};
 use elf_table::HeaderBuffer;
 use std::alloc::Global;
 use std::fs;
-use std::io::Write;
+use std::io::{BufWriter, Write};
 use std::os::unix::fs::{FileExt, FileTypeExt};
 use std::rt::Files;
 
@@ -23,7 +22,7 @@ pub fn allocate<W: Write + Drop>(
     alloc: Global,
     headers: u16,
     output: W,
-) -> Result<(HeaderBuffer, OutputBuffer<W>), ExitLine>
+) -> Result<(HeaderBuffer, BufWriter<W>), ExitLine>
     requires some { 1 ≤ headers }
     requires permitted { headers ≤ 65279 }
     ensures headers { IfOk result (λ buffers. buffers.0 ≡ headers) }
@@ -33,7 +32,7 @@ pub fn allocate<W: Write + Drop>(
     let Ok(room) = HeaderBuffer::new(alloc, headers) else {
         return Err(OUT_OF_MEMORY);
     };
-    match OutputBuffer::with_capacity(alloc, OUTPUT_BYTES, output) {
+    match BufWriter::with_capacity(alloc, OUTPUT_BYTES, output) {
         Ok(output) => Ok((room, output)),
         Err(_) => Err(OUT_OF_MEMORY),
     }

@@ -22,7 +22,6 @@ mod listings;
 mod needs_arguments;
 mod options;
 mod other_tools;
-mod output_buffer;
 mod outputs;
 mod parser;
 mod part_names;
@@ -44,7 +43,6 @@ pub use faults::RequestFault;
 pub use files::{allocate, allocate_pages, open, open_by_pages};
 pub use line_sink::LineSink;
 pub use listings::parse_show;
-pub use output_buffer::OutputBuffer;
 pub use outputs::{
     ERROR_LINE_BYTES, OUTPUT_BYTES, PIPE_BYTES, RunEnd, end_answer, end_lines, end_run, write_rest,
 };

@@ -1,13 +1,13 @@
 //! How programs flush their output.
 ghost use Rattle.std.specs.Prelude.{◌≡◌, true, false};
+ghost use Rattle.std.specs.Io.Buffered.{writer_buffer, writer_inner};
 ghost use Rattle.elf_cli.specs.Endings.{ProgramEnds, EndsRun, PutsRest, wants_rest, wants_rest_of};
 
 use crate::exit_lines::{ExitLine, READ_FAULT, WRITE_FAULT, outcome};
 use crate::line_sink::LineSink;
-use crate::output_buffer::OutputBuffer;
 use elf_source::{Out, Sink, WriteSink};
 use elf_table::RunFault;
-use std::io::Write;
+use std::io::{BufWriter, Write};
 
 /// How many bytes of output are buffered before they are written.
 pub const OUTPUT_BYTES: usize = 65_536;
@@ -35,11 +35,11 @@ pub enum RunEnd {
 /// such a fault nothing more is written.
 pub fn end_answer<W: Write + Drop>(
     answer: &Result<u8, RunFault>,
-    output: OutputBuffer<W>,
+    output: BufWriter<W>,
 ) -> (ExitLine, WriteSink<W>)
     ensures ends { ProgramEnds answer.now result.1.failed result.0.0 result.0.1.now }
-    ensures rest { PutsRest (wants_rest answer.now) result.1.failed output.bytes
-        (W.contents output.writer) (W.contents result.1.writer) }
+    ensures rest { PutsRest (wants_rest answer.now) result.1.failed (writer_buffer output)
+        (W.contents (writer_inner output)) (W.contents result.1.writer) }
 {
     let wanted = !matches!(answer, Err(RunFault::Out(_)));
     let rest = write_rest(output, wanted);
@@ -53,10 +53,10 @@ pub fn end_answer<W: Write + Drop>(
 
 /// Writes the rest of the output of a run that reports faults of its own: its status is kept unless
 /// the returned sink has failed, and a fault of the run's own is reported in any case.
-pub fn end_run<W: Write + Drop>(ended: RunEnd, output: OutputBuffer<W>) -> (ExitLine, WriteSink<W>)
+pub fn end_run<W: Write + Drop>(ended: RunEnd, output: BufWriter<W>) -> (ExitLine, WriteSink<W>)
     ensures ends { EndsRun ended result.1.failed result.0.0 result.0.1.now }
-    ensures rest { PutsRest (wants_rest_of ended) result.1.failed output.bytes
-        (W.contents output.writer) (W.contents result.1.writer) }
+    ensures rest { PutsRest (wants_rest_of ended) result.1.failed (writer_buffer output)
+        (W.contents (writer_inner output)) (W.contents result.1.writer) }
 {
     let rest = write_rest(output, is_rest_wanted(ended));
     (ending_of(ended, rest.failed()), rest)
@@ -101,15 +101,16 @@ fn ending_of(ended: RunEnd, failed: bool) -> ExitLine
 
 /// Writes the rest of an output, to its end or the first fault, if that is wanted.
 ///
-/// The writer below must not buffer. Returns a sink over it, which has failed exactly if not all was written.
-pub fn write_rest<W: Write + Drop>(output: OutputBuffer<W>, wanted: bool) -> WriteSink<W>
-    ensures { PutsRest wanted result.failed output.bytes
-        (W.contents output.writer) (W.contents result.writer) }
+/// The output is taken apart, since dropping it would try once more to write what failed. The sink
+/// below must not buffer. Returns a sink over it, which has failed exactly if not all was written.
+pub fn write_rest<W: Write + Drop>(output: BufWriter<W>, wanted: bool) -> WriteSink<W>
+    ensures { PutsRest wanted result.failed (writer_buffer output)
+        (W.contents (writer_inner output)) (W.contents result.writer) }
 {
-    let (writer, memory, count) = output.into_parts();
+    let (writer, rest) = output.into_parts();
     let mut out = Out::new(WriteSink::new(writer));
     if wanted {
-        let _ = out.put(&memory[..count]);
+        let _ = out.put(&rest);
     }
     out.into_inner()
 }

@@ -9,7 +9,6 @@ use crate::command_args::read_args;
 use crate::exit_lines::{BAD_WORDS, ExitLine, NOT_UTF8, OUT_OF_MEMORY, refused};
 use crate::faults::RequestFault;
 use crate::other_tools::show_tip;
-use crate::output_buffer::OutputBuffer;
 use crate::outputs::{ERROR_LINE_BYTES, write_rest};
 use crate::parser::parse_arguments;
 use crate::usage_errors::request_fault;
@@ -20,7 +19,7 @@ use elf_model::Format;
 use elf_source::{Out, OutFault, Sink, WriteSink};
 use std::alloc::{AllocError, Global};
 use std::env;
-use std::io::{ErrorKind, Stderr};
+use std::io::{BufWriter, ErrorKind, Stderr};
 use std::rt::Env;
 
 /// The message for a required trait that is not a valid one, before it.
@@ -87,7 +86,7 @@ fn report_trait(alloc: Global, word: &str, errors: Stderr) -> ExitLine
     ensures { ((result.0 ≡ 2) × (result.1.now ≡ []))
         ⊎ ((result.0 ≡ 3) × (result.1.now ≡ codes "elfsee: out of memory")) }
 {
-    let Ok(errors) = OutputBuffer::with_capacity(alloc, ERROR_LINE_BYTES, errors) else {
+    let Ok(errors) = BufWriter::with_capacity(alloc, ERROR_LINE_BYTES, errors) else {
         return OUT_OF_MEMORY;
     };
     let mut out = Out::new(WriteSink::new(errors));
@@ -123,7 +122,7 @@ fn report_clap_error(
 ) -> Result<(), AllocError> {
     let text = format!(in alloc; "{told}")?;
     let marked = marked_text(alloc, words)?;
-    let Ok(errors) = OutputBuffer::with_capacity(alloc, ERROR_LINE_BYTES, errors) else {
+    let Ok(errors) = BufWriter::with_capacity(alloc, ERROR_LINE_BYTES, errors) else {
         return Err(AllocError);
     };
     let mut out = Out::new(WriteSink::new(errors));

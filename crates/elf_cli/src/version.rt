@@ -3,11 +3,10 @@ ghost use Rattle.elf_cli.specs.Version.{VersionEnds, version_line};
 ghost use Rattle.elf_source.specs.Output.{OutPuts};
 
 use crate::exit_lines::{ExitLine, OUT_OF_MEMORY};
-use crate::output_buffer::OutputBuffer;
 use crate::outputs::{OUTPUT_BYTES, end_answer};
 use elf_source::{Out, OutFault, Sink, WriteSink};
 use elf_table::RunFault;
-use std::io::{self, Write};
+use std::io::{self, BufWriter, Write};
 
 /// The version line: the program's name and three numbers.
 const VERSION: &str = "elfsee 0.1.0\n";
@@ -17,14 +16,14 @@ const VERSION: &str = "elfsee 0.1.0\n";
 /// # Errors
 /// Out of memory; nothing is written then.
 pub fn report_version<R: Print + AllocGlobal>(rt: &R) -> Result<ExitLine, ExitLine> {
-    match OutputBuffer::with_capacity(rt.alloc(), OUTPUT_BYTES, io::writer(rt)) {
+    match BufWriter::with_capacity(rt.alloc(), OUTPUT_BYTES, io::writer(rt)) {
         Ok(output) => Ok(version_into(output)),
         Err(_) => Err(OUT_OF_MEMORY),
     }
 }
 
 /// Writes the version line, and the rest of the output.
-fn version_into<W: Write + Drop>(output: OutputBuffer<W>) -> ExitLine
+fn version_into<W: Write + Drop>(output: BufWriter<W>) -> ExitLine
     ensures { VersionEnds result.0 result.1.now }
 {
     let mut out = Out::new(WriteSink::new(output));

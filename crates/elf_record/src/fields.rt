@@ -31,14 +31,12 @@ pub(crate) fn u32_at(bytes: &[u8], at: usize) -> u32
     LittleEndian::read_u32(&bytes[at..])
 }
 
-/// Reads the number of eight bytes at an offset. The bytes are copied at once, which is one load;
-/// `read_u64` tests and loads each byte.
-#[inline(always)]
+/// Reads the number of eight bytes at an offset.
 pub fn u64_at(bytes: &[u8], at: usize) -> u64
     requires { at + 8 ≤ length bytes.now }
     ensures { result ≡ field bytes.now at 8 }
 {
-    LittleEndian::read_uint(&bytes[at..], 8)
+    LittleEndian::read_u64(&bytes[at..])
 }
 
 /// Reads the signed number of eight bytes at an offset, in two's complement.

@@ -2,10 +2,10 @@
 
 use crate::printer::ShortWriter;
 use crate::script::{FaultScript, InjectedFault};
-use elf_cli::{ExitLine, OutputBuffer, end_answer};
+use elf_cli::{ExitLine, end_answer};
 use elf_source::{OutFault, SourceFault};
 use elf_table::RunFault;
-use std::io::{ErrorKind, Write};
+use std::io::{BufWriter, ErrorKind, Write};
 use std::process::Abort;
 
 /// Returns how a program ends whose output has a word left over a printer, and what the printer
@@ -16,7 +16,7 @@ fn end(
     script: &FaultScript,
 ) -> (ExitLine, Vec<u8>) {
     let printer = ShortWriter::new(9, script, rt.alloc());
-    let mut output = OutputBuffer::with_capacity(rt.alloc(), 64, printer).expect(rt, "memory");
+    let mut output = BufWriter::with_capacity(rt.alloc(), 64, printer).expect(rt, "memory");
     assert!(rt; output.write_all(b"left").is_ok());
     let (ending, sink) = end_answer(answer, output);
     (ending, sink.into_inner().written)

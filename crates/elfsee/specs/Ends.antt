@@ -1,5 +1,7 @@
 -- How the program ends, by what it did.
 use Rattle.std.specs.Prelude.{ℕ, ◌≡◌, ◌⊎◌, ◌≤◌, ◌+◌, ◌==◌, ⊤, Bool, true, false, List, [], codes, Option, None, Some, Result, Ok, Err, IfErr, IfOk}
+use Rattle.std.specs.Io.Buffered.{writer_buffer, writer_contents, writer_inner}
+use Rattle.std.specs.declared.io.buffered.BufWriter.{BufWriter}
 use Rattle.elf_model.specs.Fixtures.{one_symbol_table}
 use Rattle.elf_model.specs.Prelude.{archive_cost}
 use Rattle.elf_model.specs.declared.causes.Refusal.{Refusal}
@@ -12,7 +14,7 @@ use Rattle.elf_listing.specs.Reports.{KeepsSourceUnlimited}
 use Rattle.elf_archive.specs.Listed.{ArchiveSays, AsksInArchive, ReportsArchive}
 use Rattle.elf_walk.specs.declared.lists.ListFault.{ListFault}
 use Rattle.elf_walk.specs.declared.lists.ListFault.TheVariants as list
-use Rattle.elf_cli.specs.Prelude.{Buffered, ProgramEnds, PutsRest, buffer_contents, wants_rest}
+use Rattle.elf_cli.specs.Prelude.{ProgramEnds, PutsRest, wants_rest}
 use Rattle.elf_requests.specs.ArchiveAnswers.{refused_by}
 use Rattle.elf_requests.specs.declared.requests.Task.TheVariants.{Bytes}
 use Rattle.elf_requests.specs.declared.requests.Task.{Task}
@@ -45,8 +47,8 @@ EndsTask task answer failed status line = EndsLacking (lacks_section task answer
 -- A RUN ENDS THE PROGRAM: over a source from which nothing was requested, and an output, it did
 -- what is requested; by its result, and by whether the output failed, the program ends; and the
 -- rest of the output was written, as far as its writer took it
-pub record EndsRunOver {W : Type 0} (contents : W → Option (List ℕ)) (does : CountedState → CountedState → OutState → OutState → Result ℕ RunFault → Type 0)
-    (ends_by : Result ℕ RunFault → Bool → ℕ → List ℕ → Type 0) (seen : SourceState) (output : Buffered W) (status : ℕ) (line : List ℕ) (sink : Writing W) : Type 0 where
+pub record EndsRunOver {W A : Type 0} (contents : W → Option (List ℕ)) (does : CountedState → CountedState → OutState → OutState → Result ℕ RunFault → Type 0)
+    (ends_by : Result ℕ RunFault → Bool → ℕ → List ℕ → Type 0) (seen : SourceState) (output : BufWriter W A) (status : ℕ) (line : List ℕ) (sink : Writing W) : Type 0 where
   pub old : CountedState
   pub new : CountedState
   pub same_size : old.seen.size ≡ seen.size
@@ -55,16 +57,16 @@ pub record EndsRunOver {W : Type 0} (contents : W → Option (List ℕ)) (does :
   pub before : OutState
   pub after : OutState
   pub answer : Result ℕ RunFault
-  pub begins : before.taken ≡ buffer_contents contents output
+  pub begins : before.taken ≡ writer_contents contents output
   pub did : does old new before after answer
-  pub last : Buffered W
-  pub is_at : after.taken ≡ buffer_contents contents last
+  pub last : BufWriter W A
+  pub is_at : after.taken ≡ writer_contents contents last
   pub ends : ends_by answer sink.failed status line
-  pub rest : PutsRest (wants_rest answer) sink.failed last.bytes (contents last.writer) (contents sink.writer)
+  pub rest : PutsRest (wants_rest answer) sink.failed (writer_buffer last) (contents (writer_inner last)) (contents sink.writer)
 
 -- A RUN OVER THE FILE AT A PATH ENDS THE PROGRAM, or over the sample if there is no path
-pub record AnswersFile {P W : Type 0} (contents : W → Option (List ℕ)) (does : CountedState → CountedState → OutState → OutState → Result ℕ RunFault → Type 0)
-    (ends_by : Result ℕ RunFault → Bool → ℕ → List ℕ → Type 0) (path : Option P) (output : Buffered W) (status : ℕ) (line : List ℕ) (sink : Writing W) : Type 0 where
+pub record AnswersFile {P W A : Type 0} (contents : W → Option (List ℕ)) (does : CountedState → CountedState → OutState → OutState → Result ℕ RunFault → Type 0)
+    (ends_by : Result ℕ RunFault → Bool → ℕ → List ℕ → Type 0) (path : Option P) (output : BufWriter W A) (status : ℕ) (line : List ℕ) (sink : Writing W) : Type 0 where
   pub seen : SourceState
   pub sample : path ≡ None → seen.file ≡ Some one_symbol_table
   pub ends : EndsRunOver contents does ends_by seen output status line sink

@@ -1,13 +1,15 @@
 -- What the program writes of a link.
 use Rattle.std.specs.Prelude.{ℕ, ◌≡◌, Bool, true, false, List, Option, None, Result, Ok, Err, IfOk}
+use Rattle.std.specs.Io.Buffered.{writer_buffer, writer_contents, writer_inner}
 use Rattle.std.specs.List.{concat}
 use Rattle.std.specs.Result.{is_ok}
+use Rattle.std.specs.declared.io.buffered.BufWriter.{BufWriter}
 use Rattle.elf_model.specs.LinkInputs.{Linking}
 use Rattle.elf_model.specs.LinkLines.{FileNames}
 use Rattle.elf_model.specs.declared.formats.Format.{Format}
 use Rattle.elf_source.specs.Output.{OutState, Writing}
 use Rattle.elf_source.specs.declared.faults.OutFault.{OutFault}
-use Rattle.elf_cli.specs.Prelude.{Buffered, PutsRest, buffer_contents}
+use Rattle.elf_cli.specs.Prelude.{PutsRest}
 use Rattle.elf_resolve.specs.LinkTexts.{WritesText}
 use Rattle.elf_resolve.specs.Resolved.{linking_of}
 use Rattle.elf_resolve.specs.ShownLinks.{in_columns, shown_link, shown_status}
@@ -25,20 +27,20 @@ lines_end (Ok status) false = Ok status
 lines_end shown failed = Err failure.Write
 
 -- LINES AND THE REST of an output are written, and the status is theirs
-pub record WritesLinkLines {W : Type 0} (contents : W → Option (List ℕ)) (text : List ℕ) (found : ℕ) (output : Buffered W) (answer : Result ℕ LinkFailure) (sink : Writing W) : Type 0 where
+pub record WritesLinkLines {W A : Type 0} (contents : W → Option (List ℕ)) (text : List ℕ) (found : ℕ) (output : BufWriter W A) (answer : Result ℕ LinkFailure) (sink : Writing W) : Type 0 where
   pub before : OutState
   pub after : OutState
   pub shown : Result ℕ OutFault
-  pub last : Buffered W
-  pub begins : before.taken ≡ buffer_contents contents output
+  pub last : BufWriter W A
+  pub begins : before.taken ≡ writer_contents contents output
   pub did : WritesText before after shown text
   pub status : IfOk shown (λ status. status ≡ found)
-  pub is_at : after.taken ≡ buffer_contents contents last
+  pub is_at : after.taken ≡ writer_contents contents last
   pub ends : answer ≡ lines_end shown sink.failed
-  pub rest : PutsRest (is_ok shown) sink.failed last.bytes (contents last.writer) (contents sink.writer)
+  pub rest : PutsRest (is_ok shown) sink.failed (writer_buffer last) (contents (writer_inner last)) (contents sink.writer)
 
 -- the lines of a link
-abbrev pub WritesLink : {W : Type 0} → (W → Option (List ℕ)) → LinkLines → FileNames → Resolver → Buffered W → Result ℕ LinkFailure → Writing W → Type 0
+abbrev pub WritesLink : {W A : Type 0} → (W → Option (List ℕ)) → LinkLines → FileNames → Resolver → BufWriter W A → Result ℕ LinkFailure → Writing W → Type 0
 WritesLink contents style names link output answer sink =
     WritesLinkLines contents (concat (shown_link style.problems (in_columns style.format) names link)) (shown_status link link.end) output answer sink
 
@@ -49,7 +51,7 @@ AnswersLink did old new (Err failure.Write) = did
 AnswersLink did old new (Err other) = new ≡ old
 
 -- A LINK IS THE DEFINITION'S, and makes what is planned, and its lines are written
-pub record ResolvesLink {W : Type 0} (contents : W → Option (List ℕ)) (style : LinkLines) (names : FileNames) (kind : OutputKind) (made : Linking) (link : Resolver) (output : Buffered W) (answer : Result ℕ LinkFailure) (sink : Writing W) : Type 0 where
+pub record ResolvesLink {W A : Type 0} (contents : W → Option (List ℕ)) (style : LinkLines) (names : FileNames) (kind : OutputKind) (made : Linking) (link : Resolver) (output : BufWriter W A) (answer : Result ℕ LinkFailure) (sink : Writing W) : Type 0 where
   pub links : linking_of link ≡ made
   pub makes : link.output ≡ kind
   pub lines : WritesLink contents style names link output answer sink

@@ -7,15 +7,14 @@ ghost use Rattle.elfsee.specs.Naming.{EndsWithoutNames};
 use crate::names::{caps_by_names, read_list, sorted_names};
 use elf_archive::show_archive;
 use elf_cli::{
-    CANNOT_OPEN, CommandArgs, ExitLine, OutputBuffer, allocate, allocate_pages, end_answer,
-    open_by_pages,
+    CANNOT_OPEN, CommandArgs, ExitLine, allocate, allocate_pages, end_answer, open_by_pages,
 };
 use elf_format::TableWriter;
 use elf_record::Parts;
 use elf_requests::archive_status;
 use elf_source::{Counted, DeferredSink, Out, RangeSource, Source, WriteSink};
 use elf_table::{Caps, HeaderStore};
-use std::io::{self, Write};
+use std::io::{self, BufWriter, Write};
 use std::os::unix::fs::FileExt;
 use std::rt::Files;
 
@@ -92,7 +91,7 @@ fn write_archive<S: Source + Drop, W: Write + Drop>(
     parts: Parts,
     source: S,
     mut store: HeaderStore<'_>,
-    output: OutputBuffer<W>,
+    output: BufWriter<W>,
     held: Vec<u8>,
 ) -> (ExitLine, WriteSink<W>)
     requires slots { store.slots ≡ caps.limits.headers }

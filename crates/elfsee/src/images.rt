@@ -4,8 +4,8 @@ ghost use Rattle.elf_hash.specs.Loading.{FitsSource};
 
 use crate::layouts::{read_list, told};
 use elf_cli::{
-    CANNOT_OPEN, CommandArgs, ExitLine, OUT_OF_MEMORY, OutputBuffer, allocate, allocate_pages,
-    end_answer, open_by_pages,
+    CANNOT_OPEN, CommandArgs, ExitLine, OUT_OF_MEMORY, allocate, allocate_pages, end_answer,
+    open_by_pages,
 };
 use elf_format::show_lacking_entry;
 use elf_image::{
@@ -17,7 +17,7 @@ use elf_model::Format;
 use elf_source::{Counted, Out, Sink, Source, WriteSink};
 use elf_table::{Fault, HeaderStore, Loaded, RunFault};
 use std::alloc::Global;
-use std::io::{self, Stderr, Write};
+use std::io::{self, BufWriter, Stderr, Write};
 use std::os::unix::fs::FileExt;
 use std::rt::Files;
 use std::str;
@@ -198,7 +198,7 @@ fn write_job<S: Source + Drop, W: Write + Drop>(
     source: S,
     mut store: HeaderStore<'_>,
     window: &mut [u8],
-    output: OutputBuffer<W>,
+    output: BufWriter<W>,
 ) -> ExitLine
     requires { 16 ≤ length window.old }
 {

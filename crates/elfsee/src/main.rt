@@ -29,7 +29,7 @@ ghost use Rattle.elfsee.specs.Ends.{AnswersFile, EndsRunOver, EndsTask, EndsWith
 
 use archives::list_archive;
 use elf_cli::{
-    CommandName, ExitLine, OUT_OF_MEMORY, OutputBuffer, allocate, allocate_pages, end_answer, exit,
+    CommandName, ExitLine, OUT_OF_MEMORY, allocate, allocate_pages, end_answer, exit,
     open_by_pages, read_words, report_explanations, report_refused, report_version,
 };
 use elf_fixtures::sample;
@@ -49,7 +49,7 @@ use names::show_chosen;
 use needs::report_needs;
 use resolve::report_link;
 use std::alloc::Global;
-use std::io::{self, Input, IsTerminal, Stderr, Write};
+use std::io::{self, BufWriter, Input, IsTerminal, Stderr, Write};
 use std::os::unix::fs::FileExt;
 use std::process::ExitCode;
 use std::random::RandomSource;
@@ -191,7 +191,7 @@ fn answer_into<R: Files + AllocGlobal, W: Write + Drop>(
     request: &Request<'_>,
     store: HeaderStore<'_>,
     pages: PageCache,
-    output: OutputBuffer<W>,
+    output: BufWriter<W>,
     errors: Stderr,
 ) -> Result<(ExitLine, WriteSink<W>), ExitLine>
 where
@@ -242,7 +242,7 @@ fn write_answer<S: Source + Drop, W: Write + Drop>(
     request: &Request<'_>,
     source: S,
     mut store: HeaderStore<'_>,
-    output: OutputBuffer<W>,
+    output: BufWriter<W>,
     errors: Stderr,
 ) -> (ExitLine, WriteSink<W>)
     requires { store.slots ≡ request.now.limits.headers }

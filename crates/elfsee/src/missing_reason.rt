@@ -9,7 +9,7 @@ ghost use Rattle.elf_reloc.specs.Overflowed.{overflow_bytes};
 ghost use Rattle.elfsee.specs.Explaining.{AsksRest, WroteUpTo, asks_why, reason_bytes, reason_bytes_in, reason_in};
 
 use crate::needs_report::budget_left;
-use elf_cli::{ERROR_LINE_BYTES, OutputBuffer, write_rest};
+use elf_cli::{ERROR_LINE_BYTES, write_rest};
 use elf_format::{show_missing, show_overflow};
 use elf_layout::Addresses;
 use elf_record::{Cause, Refusal};
@@ -18,7 +18,7 @@ use elf_requests::{Request, Task};
 use elf_source::{Counted, Limited, Out, Sink, Source, WriteSink};
 use elf_table::{HeaderStore, NameBuf, NameEnd, RunFault};
 use std::alloc::Global;
-use std::io::Stderr;
+use std::io::{BufWriter, Stderr};
 
 /// Prints why a request to apply was refused, if the request asks for that.
 ///
@@ -39,7 +39,7 @@ pub fn report_missing_reason<S: Source>(
         (reason_bytes_in store.old.slots request.now.task refusal) }
 {
     if asks_why(request) {
-        if let Ok(errors) = OutputBuffer::with_capacity(alloc, ERROR_LINE_BYTES, errors) {
+        if let Ok(errors) = BufWriter::with_capacity(alloc, ERROR_LINE_BYTES, errors) {
             report_into(request, refusal, src, store, errors);
         }
     }
@@ -51,7 +51,7 @@ fn report_into<S: Source>(
     refusal: Refusal,
     src: &mut Counted<S>,
     store: &mut HeaderStore<'_>,
-    errors: OutputBuffer<Stderr>,
+    errors: BufWriter<Stderr>,
 )
     ensures slots { store.new.slots ≡ store.old.slots }
     ensures asks { AsksRest request.now.limits.budget src.old src.new

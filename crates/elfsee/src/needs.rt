@@ -4,8 +4,7 @@ ghost use Rattle.elfsee.specs.Needs.{EndsNeeds};
 
 use crate::needs_of_files::list_needs_of_files;
 use elf_cli::{
-    CANNOT_OPEN, CommandArgs, ExitLine, OUT_OF_MEMORY, OutputBuffer, READ_FAULT, RunEnd, allocate,
-    end_run, open,
+    CANNOT_OPEN, CommandArgs, ExitLine, OUT_OF_MEMORY, READ_FAULT, RunEnd, allocate, end_run, open,
 };
 use elf_format::TableWriter;
 use elf_library::{LibraryCache, NeedsFault, SystemFiles};
@@ -16,7 +15,7 @@ use elf_needs::{
 use elf_source::{FileReader, Out, OutFault, Sink, Source, StreamSource, WriteSink, opened_path};
 use elf_table::HeaderStore;
 use std::fs;
-use std::io::{self, ErrorKind, Input, Stderr, Write};
+use std::io::{self, BufWriter, ErrorKind, Input, Stderr, Write};
 use std::os::unix::fs::FileExt;
 use std::rt::Files;
 
@@ -98,7 +97,7 @@ fn needs_into<R: Files + AllocGlobal, W: Write + Drop>(
     file: &str,
     store: HeaderStore<'_>,
     rooms: (NeedsBuffers, OpenFiles<R::File>),
-    output: OutputBuffer<W>,
+    output: BufWriter<W>,
 ) -> Result<ExitLine, ExitLine>
 where
     R::File: FileExt,

@@ -1,5 +1,6 @@
 //! Where the symbols of a link come from.
 ghost use Rattle.std.specs.Prelude.{◌≡◌, ℕ, List, Some, None, map};
+ghost use Rattle.std.specs.Io.Buffered.{writer_inner};
 ghost use Rattle.elf_model.specs.LinkArchives.{files_as_inputs, names_of_files};
 ghost use Rattle.elf_model.specs.LinkInputs.{LinkInputs, linked};
 ghost use Rattle.elf_model.specs.LinkLines.{FileNames};
@@ -12,8 +13,8 @@ use crate::link_inputs::FoundInputs;
 use crate::linker_words::{LinkerWords, WordFault, read_linker_words};
 use bumpalo::Bump;
 use elf_cli::{
-    CANNOT_OPEN, CommandArgs, ERROR_LINE_BYTES, ExitLine, OUT_OF_MEMORY, OUTPUT_BYTES,
-    OutputBuffer, READ_FAULT, WRITE_FAULT, write_rest,
+    CANNOT_OPEN, CommandArgs, ERROR_LINE_BYTES, ExitLine, OUT_OF_MEMORY, OUTPUT_BYTES, READ_FAULT,
+    WRITE_FAULT, write_rest,
 };
 use elf_format::{LinePrefix, line_of, show_named};
 use elf_model::Format;
@@ -21,7 +22,7 @@ use elf_resolve::{InputFiles, LinkCaps, LinkFault, LinkLines, LinkPlan, Resolver
 use elf_source::{Out, OutFault, Sink, WriteSink};
 use std::alloc::Global;
 use std::hash::RandomState;
-use std::io::{self, Stderr, Write};
+use std::io::{self, BufWriter, Stderr, Write};
 use std::os::unix::fs::FileExt;
 use std::random::RandomSource;
 use std::rt::Files;
@@ -84,7 +85,7 @@ fn ending_of(failure: LinkFailure) -> ExitLine {
 
 /// Writes the message for an argument of a linker that is refused, and returns how the program ends.
 fn report_word(alloc: Global, word: &str, errors: Stderr) -> ExitLine {
-    let Ok(errors) = OutputBuffer::with_capacity(alloc, ERROR_LINE_BYTES, errors) else {
+    let Ok(errors) = BufWriter::with_capacity(alloc, ERROR_LINE_BYTES, errors) else {
         return OUT_OF_MEMORY;
     };
     let mut out = Out::new(WriteSink::new(errors));
@@ -133,7 +134,7 @@ where
 {
     let alloc = rt.alloc();
     let caps = caps_of(asked);
-    let Ok(output) = OutputBuffer::with_capacity(alloc, OUTPUT_BYTES, io::writer(rt)) else {
+    let Ok(output) = BufWriter::with_capacity(alloc, OUTPUT_BYTES, io::writer(rt)) else {
         return Err(LinkFailure::Memory);
     };
     let Ok(hasher) = RandomState::new(rt) else {
@@ -174,7 +175,7 @@ fn write_link<F: InputFiles, W: Write + Drop>(
     asked: &[&str],
     plan: &LinkPlan,
     style: LinkLines,
-    output: OutputBuffer<W>,
+    output: BufWriter<W>,
 ) -> (Result<u8, LinkFailure>, WriteSink<W>)
     ensures { (inputs : LinkInputs) (path : ℕ → List ℕ) → IsFresh link.old →
         IsStaticPlan (F.file files.old) plan.now → plan_steps inputs ≡ plan.now.steps.items →
@@ -183,7 +184,7 @@ fn write_link<F: InputFiles, W: Write + Drop>(
         AnswersLink (ResolvesLink W.contents style (names_of_files all path) plan.now.output
         (linked (files_as_inputs all) (map (λ name. name.now) asked.now) inputs)
         link.new output result.0 result.1)
-        (W.contents output.writer) (W.contents result.1.writer) result.0 }
+        (W.contents (writer_inner output)) (W.contents result.1.writer) result.0 }
 {
     match link.resolve(files, asked, plan) {
         Ok(()) => write_lines(link, &*files, style, output),
@@ -211,7 +212,7 @@ fn write_lines<F: InputFiles, W: Write + Drop>(
     link: &Resolver<'_>,
     files: &F,
     style: LinkLines,
-    output: OutputBuffer<W>,
+    output: BufWriter<W>,
 ) -> (Result<u8, LinkFailure>, WriteSink<W>)
     ensures { (names : FileNames) → (link.now.end ≡ None → AreKeysListed link.now) →
         AreRowsNamed (F.text files.now) names link.now →

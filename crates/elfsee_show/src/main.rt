@@ -4,15 +4,15 @@
 ghost use Rattle.std.specs.Prelude.{◌≡◌};
 
 use elf_cli::{
-    CommandArgs, CommandName, ExitLine, OutputBuffer, allocate, allocate_pages, end_answer, exit,
-    open_by_pages, parse_show, read_words, report_refused, report_version,
+    CommandArgs, CommandName, ExitLine, allocate, allocate_pages, end_answer, exit, open_by_pages,
+    parse_show, read_words, report_refused, report_version,
 };
 use elf_fixtures::sample;
 use elf_format::TableWriter;
 use elf_listing::show;
 use elf_source::{Counted, MemorySource, Out, Source, WriteSink};
 use elf_table::HeaderStore;
-use std::io::{self, Stderr, Write};
+use std::io::{self, BufWriter, Stderr, Write};
 use std::os::unix::fs::FileExt;
 use std::process::ExitCode;
 use std::rt::{Env, Files};
@@ -50,7 +50,7 @@ fn list<S: Source + Drop, W: Write + Drop>(
     args: &CommandArgs<'_>,
     source: S,
     mut store: HeaderStore<'_>,
-    output: OutputBuffer<W>,
+    output: BufWriter<W>,
 ) -> ExitLine
     requires { store.slots ≡ args.now.caps.limits.headers }
 {

@@ -1,7 +1,7 @@
 -- A new source over all bytes of an archive is whole, and hides nothing; what its listing did ends
 -- the program.
 use Rattle.std.proofs.Common.{◌∙◌, ap, sym}
-use Rattle.elf_cli.specs.Prelude.{buffer_contents}
+use Rattle.std.specs.Io.Buffered.{writer_contents}
 use Rattle.elfsee.proofs.EndLaws.{all_below, archive_runs}
 use Rattle.elfsee.proofs.archives.write_archive.Goals as goal
 
@@ -25,11 +25,11 @@ returns g c =
       before = c.new-out.result;
       after = listed.new.out;
       answer = c.archive_status.result;
-      begins = c.new-out.ensures.taken ∙ (all_below _ _ c.new-3.ensures.held ∙ (c.new-3.ensures.below ∙ ap (buffer_contents g.W.Write.contents) c.new-2.ensures.writer));
+      begins = c.new-out.ensures.taken ∙ (all_below _ _ c.new-3.ensures.held ∙ (c.new-3.ensures.below ∙ ap (writer_contents g.W.Write.contents) c.new-2.ensures.writer));
       did = archive_runs c.args.caps c.args.parts.0 c.new-src.result listed.new.src c.new-out.result listed.new.out listed.result c.archive_status.result
           c.archive_status.ensures.refused c.archive_status.ensures.status listed.ensures.grows listed.ensures.leaves listed.ensures.says listed.ensures.text listed.ensures.cost listed.ensures.asks;
       last = c.into_inner-2.result;
-      is_at = sym (ap (buffer_contents g.W.Write.contents) c.into_inner-2.ensures
+      is_at = sym (ap (writer_contents g.W.Write.contents) c.into_inner-2.ensures
           ∙ (c.into_inner-sink.ensures.below ∙ (sym (all_below c.into_inner.result.below c.into_inner.result.held empty) ∙ c.into_inner.ensures.taken)));
       ends = c.end_answer.ensures.ends;
       rest = c.end_answer.ensures.rest;

@@ -1,6 +1,6 @@
 -- What was written of a link, and then of the rest.
 use Rattle.std.proofs.Common.{◌≡◌, ◌∙◌, ap, subst, sym}
-use Rattle.elf_cli.specs.Prelude.{buffer_contents}
+use Rattle.std.specs.Io.Buffered.{writer_contents}
 use Rattle.elfsee.specs.Links.{lines_end}
 use Rattle.elfsee.proofs.resolve.write_lines.Goals as goal
 
@@ -12,10 +12,10 @@ returns g c names listed named =
       after = shown.new.out;
       shown = shown.result;
       last = c.into_inner-2.result;
-      begins = c.new-out.ensures.taken ∙ ap (buffer_contents g.W.Write.contents) c.new.ensures.writer;
+      begins = c.new-out.ensures.taken ∙ ap (writer_contents g.W.Write.contents) c.new.ensures.writer;
       did = shown.ensures.writes names listed named;
       status = shown.ensures.status listed;
-      is_at = sym (ap (buffer_contents g.W.Write.contents) c.into_inner-2.ensures ∙ c.into_inner.ensures.taken);
+      is_at = sym (ap (writer_contents g.W.Write.contents) c.into_inner-2.ensures ∙ c.into_inner.ensures.taken);
       ends = subst (λ failed. c.lines_end.result ≡ lines_end shown.result failed) c.failed.ensures c.lines_end.ensures;
       rest = rw (sym c.is_ok.ensures.value) c.write_rest-rest.ensures;
     }
