@@ -29,7 +29,7 @@ LAYOUT_BYTES = 40000
 # numbers of bytes. A list that grows is requested anew each time.
 WORDS_BYTES, WORDS_HELD = 272000, 156000
 # The pages of a file that are kept if there is no read budget, each with its offset, its length and four indexes.
-PAGES_BYTES = 1024 * (4096 + 16 + 4 * 2)
+PAGES_BYTES = 8192 * (4096 + 16 + 4 * 2)
 OUT_OF_MEMORY = b"elfsee: out of memory\n"
 LIBRARY = r"""
 #define _GNU_SOURCE
