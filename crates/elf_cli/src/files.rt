@@ -14,6 +14,9 @@ use std::rt::Files;
 /// How many pages of a file are cached: 32 MiB.
 const FILE_PAGES: u16 = 8192;
 
+/// How many are cached if there is no memory for these: 4 MiB.
+const FEWER_PAGES: u16 = 1024;
+
 /// Allocates memory for so many headers of a file, and the buffer of an output.
 ///
 /// # Errors
@@ -38,8 +41,8 @@ pub fn allocate<W: Write + Drop>(
     }
 }
 
-/// Allocates the pages of a file that are cached. With a read budget there are none, since each
-/// byte that is read of the file counts.
+/// Allocates the pages of a file that are cached: 8,192, or 1,024 if there is no memory for these.
+/// With a read budget there are none, since each byte that is read of the file counts.
 ///
 /// # Errors
 /// How the program ends if it is out of memory.
@@ -50,7 +53,10 @@ pub fn allocate_pages(alloc: Global, budget: Option<u64>) -> Result<PageCache, E
     if budget.is_some() {
         return Ok(PageCache::empty(alloc));
     }
-    match PageCache::with_room(alloc, FILE_PAGES) {
+    if let Ok(pages) = PageCache::with_room(alloc, FILE_PAGES) {
+        return Ok(pages);
+    }
+    match PageCache::with_room(alloc, FEWER_PAGES) {
         Ok(pages) => Ok(pages),
         Err(_) => Err(OUT_OF_MEMORY),
     }
