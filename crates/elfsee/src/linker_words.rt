@@ -152,6 +152,16 @@ pub fn read_linker_words<'w>(
 }
 
 impl<'w> LinkerWords<'w> {
+    /// Returns `true` if there is an input.
+    pub fn has_input(&self) -> bool {
+        for step in &self.steps {
+            if matches!(step, WordStep::Input(_)) {
+                return true;
+            }
+        }
+        false
+    }
+
     /// Reads an argument, with the next one if that is its value, and returns how many it read.
     ///
     /// # Errors

@@ -37,10 +37,13 @@ const MOST_ENTRIES: u32 = 262_144;
 
 const MOST_ROWS: u32 = 16_384;
 
+/// How the program ends if no argument is an input.
+const NO_INPUT: ExitLine = (2, "elfsee: no input files");
+
 /// Prints where a linker would take the symbols of a link from.
 ///
 /// # Errors
-/// Out of memory, or a file cannot be opened or read.
+/// No argument is an input; out of memory, or a file cannot be opened or read.
 #[inline(never)]
 pub fn report_link<R: Files + Print + RandomSource + AllocGlobal>(
     rt: &R,
@@ -51,6 +54,7 @@ where
     R::File: FileExt,
 {
     match read_linker_words(rt.alloc(), &asked.words) {
+        Ok(words) if !words.has_input() => Err(NO_INPUT),
         Ok(words) => match resolve_words(rt, asked, &words) {
             Ok(status) => Ok((status, "")),
             Err(failure) => Err(ending_of(failure)),
