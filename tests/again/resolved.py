@@ -296,10 +296,18 @@ def answer(words, most=65279):
     return link.lines()
 
 
+def has_input(inputs):
+    """Whether there is an input among these and in their groups."""
+    return any(not isinstance(step, list) or has_input(step) for step in inputs)
+
+
 def main(words):
     words = words[1:] if words[:1] == [b"resolve"] else words
     place = words.index(b"--")
     try:
+        if not has_input(Words(words[place + 1:]).inputs):
+            print("elfsee: no input files", file=sys.stderr)
+            return 2
         lines, status = answer(words[place + 1:])
     except BadWord as bad:
         print("elfsee: word", os.fsdecode(bad.args[0]), file=sys.stderr)
