@@ -263,9 +263,11 @@ def compare_names(program, paths, chance, count):
     for path in paths:
         if left <= 0:
             break
-        done = subprocess.run(["nm", "-DSP", "--defined-only", path], stdout=subprocess.PIPE, stderr=subprocess.DEVNULL, check=False)
-        rows = [line.split() for line in done.stdout.decode(errors="replace").splitlines()]
-        known = [(int(row[2], 16), int(row[3], 16), row[0].split("@")[0]) for row in rows if len(row) == 4 and row[1] in "TtWwi"]
+        done = subprocess.run(["nm", "-D", "--format=sysv", "--defined-only", path], stdout=subprocess.PIPE, stderr=subprocess.DEVNULL, check=False)
+        # The name, the value, a letter, the type and the size. A thread's symbol has no address.
+        rows = [[cell.strip() for cell in line.split("|")] for line in done.stdout.decode(errors="replace").splitlines()]
+        known = [(int(row[1], 16), int(row[4], 16), row[0].split("@")[0]) for row in rows
+                 if len(row) == 7 and row[1] and row[4] and row[2] in "TtWwi" and row[3] != "TLS"]
         if not known:
             continue
         for value, size, name in chance.sample(known, min(len(known), 40, left)):
