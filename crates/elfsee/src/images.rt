@@ -159,12 +159,12 @@ where
         Ok(buffers) => buffers,
         Err(ending) => return Err(ending),
     };
+    let Ok(mut window) = vec![in rt.alloc(); 0u8; WINDOW_BYTES] else {
+        return Err(OUT_OF_MEMORY);
+    };
     let pages = match allocate_pages(rt.alloc(), limits.budget) {
         Ok(pages) => pages,
         Err(ending) => return Err(ending),
-    };
-    let Ok(mut window) = vec![in rt.alloc(); 0u8; WINDOW_BYTES] else {
-        return Err(OUT_OF_MEMORY);
     };
     match open_by_pages(rt, path, pages) {
         Ok(source) => {
