@@ -1,5 +1,5 @@
 //! The lines of a link.
-ghost use Rattle.std.specs.Prelude.{◌≡◌, ◌||◌, ℕ, None, get_or, IfOk};
+ghost use Rattle.std.specs.Prelude.{◌≡◌, ◌||◌, ℕ, None, false, get_or, IfOk};
 ghost use Rattle.std.specs.List.{concat, list_any};
 ghost use Rattle.elf_model.specs.LinkLines.{FileNames, is_missing, name_of_row, file_front};
 ghost use Rattle.elf_model.specs.Lines.{named_line};
