@@ -189,7 +189,7 @@ def items_of(sources):
 def endings_of(sources):
     """The exit statuses, each with its lines on standard error."""
     endings = []
-    for path in ("crates/elf_cli/src/exit_lines.rt", "crates/elfsee/src/task_end.rt"):
+    for path in ("crates/elf_cli/src/exit_lines.rt", "crates/elfsee/src/task_end.rt", "crates/elfsee/src/resolve.rt"):
         endings += re.findall(r'ExitLine = \((\d+), "(.+?)"\);', read(sources, path))
     # A run that has no fault gives 0 or 1, and no line.
     statuses = {"0": set(), "1": set()}
