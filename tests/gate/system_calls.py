@@ -20,6 +20,7 @@ import errno
 import fcntl
 import os
 import platform
+import resource
 import signal
 import struct
 import subprocess
@@ -45,6 +46,8 @@ FAR, FARTHER, HEADERS = 0x110000000, 0x120000000, 0x140000000
 PAGE, BUFFER = 4096, 65536
 # How many pages are kept, how many places for their indexes there are at first, and how many of each page.
 KEPT, PLACES, PLACES_OF_PAGE = 8192, 256, 4
+# How many are kept if there are too few addresses for these, and such a limit on them, in bytes.
+FEWER, ADDRESSES = 1024, 24 << 20
 BUDGET = ("--max-read", "1000000000000")
 
 counts = Counts()
@@ -80,7 +83,7 @@ def text_at(pid, address):
 class Run:
     """The system calls of the program over one file, and how it ended."""
 
-    def __init__(self, program, words, path=None, full=False, piped=False):
+    def __init__(self, program, words, path=None, full=False, piped=False, addresses=None):
         self.path, self.files, self.opened, self.late, self.end = path, set(), [], 0, 0
         self.looks, self.opens, self.seeks, self.reads, self.writes, self.maps = 0, 0, 0, [], [], []
         # Files that are open, the most of them at one time, and how often the file was closed.
@@ -96,7 +99,7 @@ class Run:
         with out:
             pid = os.fork()
             if pid == 0:
-                start(program, words, out)
+                start(program, words, out, addresses)
             self.status = self.follow(pid)
             self.text = b""
             if not full and not piped:
@@ -169,8 +172,8 @@ class Run:
             self.end = answer
 
 
-def start(program, words, out):
-    """In the process that is to be traced: becomes the program."""
+def start(program, words, out, addresses):
+    """In the process that is to be traced: becomes the program, which has so many bytes of addresses, if that is limited."""
     nothing = os.open(os.devnull, os.O_RDWR)
     os.dup2(nothing, 0)
     os.dup2(out.fileno(), 1)
@@ -179,6 +182,8 @@ def start(program, words, out):
     try:
         if ptrace(TRACE_ME, 0) == 0:
             status = NOT_STARTED
+            if addresses:
+                resource.setrlimit(resource.RLIMIT_AS, (addresses, addresses))
             os.execve(program, [program, *words], {})
     finally:
         os._exit(status)
@@ -228,8 +233,8 @@ def head_of(sections):
     return [(0, 64), *pages(HEADERS, 64 * (sections + 1))]
 
 
-def by_pages(asked, length):
-    """The reads of a file of this length for what is asked of it without a read budget."""
+def by_pages(asked, length, most=KEPT):
+    """The reads of a file of this length for what is asked of it without a read budget, if so many pages are kept."""
     reads, kept, places, following = [], [], [0] * PLACES, 0
     for at, size in asked:
         place, begin = at // PAGE % len(places), at - at % PAGE
@@ -241,7 +246,7 @@ def by_pages(asked, length):
             continue
         page = (begin, min(PAGE, length - begin))
         reads.append(page)
-        if len(kept) < KEPT:
+        if len(kept) < most:
             if len(kept) >= len(places) // PLACES_OF_PAGE:
                 places += [0] * len(places)
                 for index, (start, _) in enumerate(kept):
@@ -250,9 +255,9 @@ def by_pages(asked, length):
             places[place] = len(kept)
             kept.append(page)
         else:
-            places[place] = following % KEPT
-            kept[following % KEPT] = page
-            following = following % KEPT + 1
+            places[place] = following % most
+            kept[following % most] = page
+            following = following % most + 1
     return reads
 
 
@@ -396,6 +401,22 @@ class Cases:
         check(f"names in 9,000 pages: {len(wanted)} reads", first_difference(wanted, run.reads))
         again = len(wanted) - len(set(wanted))
         check(f"names in 9,000 pages: {again} pages are read once more", "" if 8000 < again < 10000 else str(again))
+
+    def few_addresses(self):
+        """Twice as many symbols as pages with their names, of which all are kept, or not all, if there are few addresses."""
+        for count in (1000, 1500):
+            strings = b"".join((b"\0name_%04d" % number).ljust(PAGE, b"\0") for number in range(count))
+            symbols = b"".join(symbol(1 + PAGE * (number % count)) for number in range(2 * count))
+            path = made(self.folder, f"scattered_{count}",
+                        [section(2, FAR, len(symbols), link=2, entry=24), section(3, FARTHER, len(strings))],
+                        {FAR: symbols, FARTHER: strings})
+            asked = self.run(f"names in {count} pages", path, "show", *BUDGET, "--only", "symbols", path).reads
+            wanted = by_pages(asked, os.path.getsize(path), FEWER)
+            run = Run(self.program, ["show", "--only", "symbols", path], path, addresses=ADDRESSES)
+            check(f"names in {count} pages, with few addresses: {len(wanted)} reads",
+                  first_difference(wanted, run.reads) or (run.status and f"status {run.status}"))
+            is_other = (len(by_pages(asked, os.path.getsize(path))) < len(wanted)) == (count > FEWER)
+            check(f"names in {count} pages: as many reads with all pages, or fewer", "" if is_other else "no difference")
 
     def long_names(self):
         """100 symbols with names of 4,096 bytes."""
@@ -597,7 +618,7 @@ def main():
             if platform.machine() != "x86_64":
                 raise Untraced
             for case in (cases.headers, cases.unopened, cases.tables, cases.notes, cases.names,
-                         cases.scattered_names, cases.long_names, cases.sections, cases.lookups, cases.folders, cases.checks, cases.pieces, cases.archives, cases.needs, cases.failing_output):
+                         cases.scattered_names, cases.few_addresses, cases.long_names, cases.sections, cases.lookups, cases.folders, cases.checks, cases.pieces, cases.archives, cases.needs, cases.failing_output):
                 case()
         except Untraced:
             print("skipped the counts of calls: this system lets no process trace another")
