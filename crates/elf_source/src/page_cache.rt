@@ -12,7 +12,7 @@ use std::mem;
 /// How many indexes there are for each page.
 const INDEXES: usize = 4;
 
-/// How many pages have indexes at first. Whenever all that have some are cached, twice as many have.
+/// How many pages the indexes are for at first. They double each time that as many pages are cached.
 const FIRST_PAGES: usize = 64;
 
 /// The pages of a file that were read last, as many as there is room for.
