@@ -64,11 +64,12 @@ class Hostile(Jobs):
             self.bounded(words, whole, limit, ENOUGH[limit], b"too-many-" + word, self.step if limit == "--key-bytes" else 1)
 
     def bounded(self, words, whole, limit, most, word, step):
-        """From some value of a limit on the answer is whole, and before that a refusal for lack of it."""
+        """From some value of a limit on, which is not the first, the answer is whole, and before that a refusal for lack of it."""
         is_enough, rows = False, [line for line in whole[0] if line[:1] in b"IW"]
-        for value in [*range(0 if limit == "--max-read" else 1, most, step), most]:
+        first = 0 if limit == "--max-read" else 1
+        for value in [*range(first, most, step), most]:
             got = self.run(words, [*options_of({**ENOUGH, limit: value})])
-            is_whole = got == whole
+            is_whole = got == whole and value > first
             is_refused = got[1] == 1 and got[0][-1].split()[-1] == word and are_front(got[0][:-1], rows)
             self.quiet_case(f"{limit} {value}", "" if is_whole or is_refused and not is_enough else repr(got)[-300:])
             is_enough = is_enough or is_whole

@@ -7,9 +7,15 @@ import re
 SYSTEM = [b"/usr/local/lib/x86_64-linux-gnu", b"/lib/x86_64-linux-gnu", b"/usr/lib/x86_64-linux-gnu", b"/usr/local/lib64", b"/lib64",
           b"/usr/lib64", b"/usr/local/lib", b"/lib", b"/usr/lib"]
 STATIC, DYNAMIC = ("static", "Bstatic", "dn", "non_shared"), ("Bdynamic", "dy", "call_shared")
-PASSED = ("o", "z", "h", "m", "I", "soname", "rpath", "rpath-link", "dynamic-linker", "Map", "plugin", "version-script", "hash-style")
-REFUSED = ("r", "i", "Ur", "relocatable", "T", "script", "c", "mri-script", "b", "format", "wrap", "defsym", "require-defined",
-           "start-lib", "just-symbols", "R", "nostdlib")
+PASSED = ("a", "A", "architecture", "assert", "audit", "auxiliary", "compress-debug-sections", "ctf-share-types", "depaudit",
+          "dependency-file", "dynamic-linker", "dynamic-list", "error-handling-script", "exclude-libs",
+          "export-dynamic-symbol", "export-dynamic-symbol-list", "f", "F", "filter", "fini", "flto-partition", "fuse-ld",
+          "gpsize", "h", "hash-size", "hash-style", "I", "ignore-unresolved-symbol", "init", "m", "Map", "max-cache-size",
+          "o", "O", "oformat", "orphan-handling", "out-implib", "output", "P", "plugin", "plugin-opt", "retain-symbols-file",
+          "rpath", "rpath-link", "section-start", "soname", "sort-section", "spare-dynamic-tags", "sysroot", "task-link",
+          "trace-symbol", "unresolved-symbols", "version-exports-section", "version-script", "y", "Y", "z")
+REFUSED = ("r", "i", "Ur", "relocatable", "T", "script", "dT", "default-script", "c", "mri-script", "b", "format", "wrap",
+           "defsym", "require-defined", "start-lib", "just-symbols", "R", "nostdlib")
 SCRIPT_BYTES = 4096
 # The beginnings of long options that may have one hyphen, and begin with the letter of another option.
 LONG = ("eh-frame-hdr", "export-dynamic", "emit-relocs", "embedded-relocs", "enable-", "end-group", "error-", "exclude-libs",

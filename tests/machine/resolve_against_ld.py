@@ -8,8 +8,8 @@ Fortran with its libraries, static and shared, whole, in groups, as needed, in a
 installed, or with --quick 13; and generated jobs of objects, archives, whole archives and groups, every other one with shared libraries
 (tests/common/made_links.py), 1,000 of them or with --quick 100. Compared are the members of archives that ld takes, in their order, each with the file and
 the symbol for which it is taken, from the map of the link; which file defines each symbol, from its cross references; and which
-symbols are undefined or defined more than once, from its messages. A symbol that no relocation uses is undefined for elfsee
-alone: those are counted. So are links that ld gives up, without a map, since a shared library refers to a hidden symbol.
+symbols are undefined or defined more than once, from its messages; and of each option that `ld --help` prints, whether the next
+argument is its value. A symbol that no relocation uses is undefined for elfsee alone: those are counted. So are links that ld gives up, without a map, since a shared library refers to a hidden symbol.
 
 It needs Python 3 and from Debian gcc and binutils, and for all links g++, gfortran and the libraries. Without PROGRAM the repository's own is tested, and built first if it
 is not built. The last line is `N passed, N failed`, and the status is 0 only if none failed and one passed.
@@ -104,7 +104,7 @@ class Links(Counts):
 
     def __init__(self, program):
         super().__init__()
-        self.program, self.symbols, self.members, self.unused, self.given_up = program, 0, 0, 0, 0
+        self.program, self.symbols, self.members, self.unused, self.given_up, self.undecided = program, 0, 0, 0, 0, 0
 
     def compare(self, what, words, is_first):
         """`is_first` says that of the files that ld names for a symbol the first is the one that counts."""
@@ -128,6 +128,26 @@ class Links(Counts):
         self.check(f"{what}: undefined", set(), linked.undefined - undefined)
         self.unused += len(undefined - linked.undefined)
         self.check(f"{what}: multiple", linked.multiple, sorted(answer.further))
+
+    def compare_value(self, option):
+        """Whether the next argument is an option's value, or a file, which is missing."""
+        words = [option, "value.o", "-o", "out"]
+        told = subprocess.run(["ld", *words], stdin=subprocess.DEVNULL, capture_output=True, text=True, check=False, env=PLAIN).stderr
+        is_value = "no input files" in told or "value.o" in told and "cannot find value.o:" not in told
+        done = subprocess.run([self.program, "resolve", "--", *words], capture_output=True, text=True, check=False, env=PLAIN)
+        # Without either, ld ended for another reason.
+        if done.stderr.startswith("elfsee: word") or not is_value and "cannot find value.o:" not in told:
+            self.undecided += 1
+        else:
+            self.check(f"{option} value.o", is_value, " value.o\n" not in done.stdout)
+
+
+def options_of_ld():
+    """The options that ld prints, except those of other formats and those at which it ends."""
+    text = subprocess.run(["ld", "--help"], stdout=subprocess.PIPE, text=True, check=False, env=PLAIN).stdout
+    heads = re.findall(r"^  (-\S.*?)(?:  |$)", text.partition("\ni386p")[0], re.M)
+    names = [re.split(r"[ =\[]", name)[0] for head in heads for name in head.split(", ")]
+    return [name for name in dict.fromkeys(names) if name not in ("--help", "--target-help", "--version", "-V")]
 
 
 def main():
@@ -154,11 +174,13 @@ def main():
                 with open(name, "wb") as file:
                     file.write(content)
             links.compare(f"job {number}: {b' '.join(words).decode()}", [os.fsdecode(word) for word in words], False)
+        for option in options_of_ld():
+            links.compare_value(option)
         os.chdir("/")
     if left_out:
         print(f"left out, since something is not installed: {'; '.join(left_out)}")
     print(f"{links.members} members and {links.symbols} symbols are the same; {links.unused} undefined symbols are used by "
-          f"no relocation; {links.given_up} links that ld gives up are not compared")
+          f"no relocation; {links.given_up} links that ld gives up and {links.undecided} options are not compared")
     return links.end()
 
 

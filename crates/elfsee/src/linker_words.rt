@@ -1,7 +1,7 @@
 //! The arguments of a linker: its inputs in their order, the directories that are searched for
 //! libraries, and the symbols that are asked for.
 
-use crate::linker_options::{option_name, value_of};
+use crate::linker_options::{PASSED, option_name, value_of};
 use elf_resolve::OutputKind;
 use std::alloc::{AllocError, Global};
 
@@ -13,31 +13,16 @@ const STATIC_OPTIONS: [&str; 4] = ["static", "Bstatic", "dn", "non_shared"];
 
 const SHARED_OPTIONS: [&str; 3] = ["Bdynamic", "dy", "call_shared"];
 
-/// Options whose value is the next argument, and which change nothing here.
-const PASSED: [&str; 13] = [
-    "o",
-    "z",
-    "h",
-    "m",
-    "I",
-    "soname",
-    "rpath",
-    "rpath-link",
-    "dynamic-linker",
-    "Map",
-    "plugin",
-    "version-script",
-    "hash-style",
-];
-
 /// Options that change what is linked, and are not known here.
-const UNKNOWN: [&str; 17] = [
+const UNKNOWN: [&str; 19] = [
     "r",
     "i",
     "Ur",
     "relocatable",
     "T",
     "script",
+    "dT",
+    "default-script",
     "c",
     "mri-script",
     "b",
