@@ -9,7 +9,8 @@ installed, or with --quick 13; and generated jobs of objects, archives, whole ar
 (tests/common/made_links.py), 1,000 of them or with --quick 100. Compared are the members of archives that ld takes, in their order, each with the file and
 the symbol for which it is taken, from the map of the link; which file defines each symbol, from its cross references; and which
 symbols are undefined or defined more than once, from its messages; and of each option that `ld --help` prints, whether the next
-argument is its value. A symbol that no relocation uses is undefined for elfsee alone: those are counted. So are links that ld gives up, without a map, since a shared library refers to a hidden symbol.
+argument is its value. A symbol that no relocation uses is undefined for elfsee alone: those are counted. So are links that ld gives
+up, without a map, since a shared library refers to a hidden symbol.
 
 It needs Python 3 and from Debian gcc and binutils, and for all links g++, gfortran and the libraries. Without PROGRAM the repository's own is tested, and built first if it
 is not built. The last line is `N passed, N failed`, and the status is 0 only if none failed and one passed.
@@ -139,7 +140,8 @@ class Links(Counts):
         if done.stderr.startswith("elfsee: word") or not is_value and "cannot find value.o:" not in told:
             self.undecided += 1
         else:
-            self.check(f"{option} value.o", is_value, " value.o\n" not in done.stdout)
+            has_value = done.stderr == "elfsee: no input files\n" or " -lvalue.o\n" in done.stdout
+            self.check(f"{option} value.o: whether it is a value, and a file", (is_value, not is_value), (has_value, " value.o\n" in done.stdout))
 
 
 def options_of_ld():
