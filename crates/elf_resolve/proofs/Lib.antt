@@ -52,6 +52,7 @@ pub mod OpenedLaws
 pub mod ListRoomLaws
 pub mod InputLaws
 pub mod ResolvedLaws
+pub mod ReadBudgetLaws
 pub mod TakenMemberLaws
 pub mod TakenLaws
 pub mod NamedRowLaws

@@ -1,6 +1,6 @@
 -- A resolver that holds the names of the members of its rows: what its steps do.
 use Rattle.std.proofs.Common.{◌≡◌, ℕ, ◌+◌, List, [], ◌∷◌, ◌++◌, get_or, length, refl, sym, ap, subst, ◌∙◌, arith}
-use Rattle.std.specs.Prelude.{OnOk, Option, None, Some, Result}
+use Rattle.std.specs.Prelude.{Option, None, Some}
 use Rattle.std.specs.List.{slice_get}
 use Rattle.elf_model.specs.LinkArchives.{LinkFiles, names_of_files}
 use Rattle.elf_model.specs.LinkInputs.{file_row, whole_row}
@@ -14,11 +14,9 @@ use Rattle.elf_resolve.specs.RowNames.{AddsName, KeepsMemberNames, member_names,
 use Rattle.elf_resolve.specs.RowTables.{AddedRow}
 use Rattle.elf_resolve.specs.StaticLinks.{AreRowsNamed, IsNameOfRow}
 use Rattle.elf_resolve.specs.declared.archives.OpenedArchive.{OpenedArchive}
-use Rattle.elf_resolve.specs.declared.link_faults.LinkFault.{LinkFault}
 use Rattle.elf_resolve.specs.declared.resolver.Resolver.{Resolver}
 use Rattle.elf_resolve.proofs.OpenedLaws.{found_opened}
 use Rattle.elf_resolve.proofs.RowNameLaws.{file_named, member_named, name_held, names_ascend}
-use Rattle.elf_resolve.proofs.TakenMemberLaws.{on_ok_then}
 
 -- names and rows are the same
 pub rows_still : (files : LinkFiles) (old new : Resolver) → new.room.names ≡ old.room.names → new.link.rows.rows ≡ old.link.rows.rows → KeepsRowNames files old new
@@ -51,22 +49,6 @@ pub archive_has : (files : LinkFiles) (file : List ℕ) (old : Resolver) (archiv
 archive_has files file old archive is found file_is =
     let opened = found_opened files old.tables.members.items (length old.tables.entries.items) 0 old.tables.archives.items archive.input archive is.opened found in
     subst (λ f. HasMembers f old.tables.members.items archive) (one_file opened.file file (files.file archive.input) opened.file_is file_is) opened.has_members
-
--- a file was opened before, and closed after
-pub names_read : (files : LinkFiles) (old opened took new : Resolver) (result : Result (Unit {0}) LinkFault) → opened ≡ old → new ≡ record took { left = new.left } → OnOk result (KeepsRowNames files opened took) → OnOk result (KeepsRowNames files old new)
-names_read files old opened took new result same left keeps =
-    on_ok_then (KeepsRowNames files old took) (KeepsRowNames files old new) result
-    (λ keep held. rows_still files took new (ap (λ (r : Resolver). r.room.names) left) (ap (λ (r : Resolver). r.link.rows.rows) left) (keep held))
-    (subst (λ r. OnOk result (KeepsRowNames files r took)) same keeps)
-
--- an archive was searched again
-pub names_again : (files : LinkFiles) (file : List ℕ) (old opened searched new : Resolver) (archive a : OpenedArchive) (result : Result (Unit {0}) LinkFault) → opened ≡ old → new ≡ record searched { left = new.left } → archive ≡ a
-    → (IsLink files opened → archive_of_input opened.tables.archives.items archive.input ≡ Some archive → files.file archive.input ≡ Some file → OnOk result (KeepsRowNames files opened searched))
-    → IsLink files old → archive_of_input old.tables.archives.items a.input ≡ Some a → files.file a.input ≡ Some file → OnOk result (KeepsRowNames files old new)
-names_again files file old opened searched new archive a result same left one searches is found file_is =
-    let found_there : archive_of_input opened.tables.archives.items archive.input ≡ Some archive =
-    subst (λ (r : Resolver). archive_of_input r.tables.archives.items archive.input ≡ Some archive) (sym same) (subst (λ (x : OpenedArchive). archive_of_input old.tables.archives.items x.input ≡ Some x) (sym one) found) in
-    names_read files old opened searched new result same left (searches (subst (λ r. IsLink files r) (sym same) is) found_there (ap (λ (x : OpenedArchive). files.file x.input) one ∙ file_is))
 
 -- THE NAMES OF ROWS are those of the files
 pub rows_are_named : (files : LinkFiles) (path : ℕ → List ℕ) (text : ℕ → Option (List ℕ)) (link : Resolver) → ((input : ℕ) → text input ≡ Some (path input)) → ((index : ℕ) → get_or link.kinds.items index None ≡ None) → HasNames files link

@@ -139,20 +139,6 @@ again_makes_input files old i k a opened at found =
     let searched = again_searched (linking_of old) i (open_archive old.tables.entries.items old.taken.items a) (files_as_inputs files i) opened.count opened.symbols (members_as_objects opened.file (link_members opened.file).members files.headers) there input_is in
     sym (ap (λ b. input_made b (linking_of old) i (files_as_inputs files i)) old_state ∙ searched)
 
-pub again_leaves : (files : LinkFiles) (file : List ℕ) (old opened searched new : Resolver) (archive a : OpenedArchive) (result : Result (Unit {0}) LinkFault) → opened ≡ old → new ≡ record searched { left = new.left } → archive ≡ a
-    → (IsLink files opened → archive_of_input opened.tables.archives.items archive.input ≡ Some archive → files.file archive.input ≡ Some file → NoneRefused files opened.link.rows.rows
-    → LeavesRows files ⊥ searched (archive_again (linking_of opened) (open_archive opened.tables.entries.items opened.taken.items archive) (members_as_objects file (link_members file).members files.headers)).rows result)
-    → IsLink files old → archive_of_input old.tables.archives.items a.input ≡ Some a → files.file a.input ≡ Some file → NoneRefused files old.link.rows.rows
-    → LeavesRows files ⊥ new (archive_again (linking_of old) (open_archive old.tables.entries.items old.taken.items a) (members_as_objects file (link_members file).members files.headers)).rows result
-again_leaves files file old opened searched new archive a result same_open left one searches is found file_is none =
-    let members = members_as_objects file (link_members file).members files.headers in
-    let found_there : archive_of_input opened.tables.archives.items archive.input ≡ Some archive =
-    subst (λ (r : Resolver). archive_of_input r.tables.archives.items archive.input ≡ Some archive) (sym same_open) (subst (λ (x : OpenedArchive). archive_of_input old.tables.archives.items x.input ≡ Some x) (sym one) found) in
-    let leaves = searches (subst (λ r. IsLink files r) (sym same_open) is) found_there (ap (λ (x : OpenedArchive). files.file x.input) one ∙ file_is) (subst (λ (r : Resolver). NoneRefused files r.link.rows.rows) (sym same_open) none) in
-    leaves_as files ⊥ searched new _ _ result (ap (λ (r : Resolver). r.link) left) (ap (λ (r : Resolver). r.row) left)
-    (ap (λ (r : Resolver). (archive_again (linking_of r) (open_archive r.tables.entries.items r.taken.items archive) members).rows) same_open
-    ∙ ap (λ (x : OpenedArchive). (archive_again (linking_of old) (open_archive old.tables.entries.items old.taken.items x) members).rows) one) leaves
-
 -- a round of a group adds no row
 pub group_leaves : {A : Type 0} → (files : LinkFiles) (is_script : Type 0) (old new : Resolver) (whole : List LinkRow) (r : Result A LinkFault) → new.link ≡ old.link → IfErr r (IsLinkFault None) → NoneRefused files old.link.rows.rows → LeavesRows files is_script new whole r
 group_leaves files is_script old new whole (Ok value) same limit none = subst (λ l. NoneRefused files l.rows.rows) (sym same) none

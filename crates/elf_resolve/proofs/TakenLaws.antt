@@ -33,7 +33,6 @@ use Rattle.elf_resolve.proofs.ListRoomLaws.{limits_same, room_still}
 use Rattle.elf_resolve.proofs.OpenedLaws.{input_found, opened_as}
 use Rattle.elf_resolve.proofs.InputLaws.{input_missing, input_object, set_here, set_there}
 use Rattle.elf_resolve.proofs.ResolvedLaws.{link_still, linking_by}
-use Rattle.elf_resolve.proofs.TakenMemberLaws.{on_ok_then}
 
 -- AN INPUT IS REACHED
 done_state : (old new : List InputState) (archives : List OpenedArchive) (index i : ℕ) → slice_get old index ≡ Some state.New → new ≡ set old index state.Done → IsInputState (slice_get old i) archives i → IsInputState (slice_get new i) archives i
@@ -227,30 +226,6 @@ pub archive_known : (files : LinkFiles) (known : ℕ → Option (List ℕ)) (ind
 archive_known files known index input is at =
     let has : (bytes : List ℕ) × (known index ≡ Some bytes) = subst (λ k. IsKnownFile k (known index)) at is.is_known in
     (has.0, has.1, is.file ∙ ap (λ k. file_of_kind k (known index)) at ∙ has.1)
-
-left_lists : (took new : Resolver) → new ≡ record took { left = new.left } → KeepsLists took new
-left_lists took new left = record {
-  offers = ap (λ (r : Resolver). r.offers) left;
-  further = ap (λ (r : Resolver). r.further) left;
-  spare = ap (λ (r : Resolver). r.spare) left;
-  kinds = ap (λ (r : Resolver). r.kinds) left;
-  problems = ap (λ (r : Resolver). r.problems) left;
-  most_rows = ap (λ (r : Resolver). r.link.rows.most) left;
-}
-
-pub read_makes : (files : LinkFiles) (old opened took new : Resolver) (index : ℕ) (result : Result (Unit {0}) LinkFault) → opened ≡ old → new ≡ record took { left = new.left }
-    → OnOk result (TookInput files opened took index (input_taken (linking_of opened) index (files_as_inputs files index)))
-    → OnOk result (TookInput files old new index (input_taken (linking_of old) index (files_as_inputs files index)))
-read_makes files old opened took new index result same left holds =
-    let here = subst (λ (r : Resolver). OnOk result (TookInput files r took index (input_taken (linking_of r) index (files_as_inputs files index)))) same holds in
-    on_ok_then (TookInput files old took index (input_taken (linking_of old) index (files_as_inputs files index))) (TookInput files old new index (input_taken (linking_of old) index (files_as_inputs files index))) result (λ done. record {
-      makes = ap (λ (r : Resolver). linking_of r) left ∙ done.makes;
-      is_link = link_still files took new done.is_link (ap (λ (r : Resolver). r.room.headers) left) (ap (λ (r : Resolver). r.libraries) left) (ap (λ (r : Resolver). r.states.items) left) (ap (λ (r : Resolver). r.tables) left)
-          (ap (λ (r : Resolver). length r.taken.items) left) (left_lists took new left) (limits_same took.link.keys new.link.keys (ap (λ (r : Resolver). r.link.keys) left));
-      groups = ap (λ (r : Resolver). r.groups) left ∙ done.groups;
-      reached = ap (λ (r : Resolver). is_new_input r.states.items index) left ∙ done.reached;
-      others = λ j differ. ap (λ (r : Resolver). is_new_input r.states.items j) left ∙ done.others j differ;
-    }) here
 
 pub found_as_own : (archives : List OpenedArchive) (i : ℕ) (a : OpenedArchive) → archive_of_input archives i ≡ Some a → archive_of_input archives a.input ≡ Some a
 found_as_own archives i a found = ap (λ n. archive_of_input archives n) (input_found archives i a found) ∙ found

@@ -17,9 +17,8 @@ use Rattle.elf_resolve.specs.ResolvedInputs.{IsLink, TookMembers}
 use Rattle.elf_resolve.specs.Taken.{header_of}
 use Rattle.elf_resolve.specs.declared.archives.ArchiveTables.{ArchiveTables}
 use Rattle.elf_resolve.specs.declared.archives.OpenedArchive.{OpenedArchive}
-use Rattle.elf_resolve.specs.declared.link_faults.LinkFault.{LinkFault}
 use Rattle.elf_resolve.specs.declared.resolver.Resolver.{Resolver}
-use Rattle.elf_resolve.proofs.ListRoomLaws.{limits_itself, limits_same, limits_then, lists_itself, lists_then}
+use Rattle.elf_resolve.proofs.ListRoomLaws.{limits_itself, limits_then, lists_itself, lists_then}
 use Rattle.elf_resolve.proofs.OpenedLaws.{found_opened}
 use Rattle.elf_resolve.proofs.ResolvedLaws.{members_searched}
 
@@ -69,37 +68,9 @@ pub on_ok_then : {T E : Type 0} → (P Q : Type 0) (r : Result T E) → (P → Q
 on_ok_then P Q (Ok x) step holds = step holds
 on_ok_then P Q (Err e) step holds = holds
 
-pub again_makes : (files : LinkFiles) (file : List ℕ) (old opened searched new : Resolver) (archive a : OpenedArchive) (result : Result (Unit {0}) LinkFault) → opened ≡ old → new ≡ record searched { left = new.left } → archive ≡ a
-    → (IsLink files opened → archive_of_input opened.tables.archives.items archive.input ≡ Some archive → files.file archive.input ≡ Some file
-    → OnOk result (TookMembers opened searched (archive_again (linking_of opened) (open_archive opened.tables.entries.items opened.taken.items archive) (members_as_objects file (link_members file).members files.headers))))
-    → IsLink files old → archive_of_input old.tables.archives.items a.input ≡ Some a → files.file a.input ≡ Some file
-    → OnOk result (TookMembers old new (archive_again (linking_of old) (open_archive old.tables.entries.items old.taken.items a) (members_as_objects file (link_members file).members files.headers)))
-again_makes files file old opened searched new archive a result same_open left one searches is found file_is =
-    let members = members_as_objects file (link_members file).members files.headers in
-    let found_there : archive_of_input opened.tables.archives.items archive.input ≡ Some archive =
-    subst (λ (r : Resolver). archive_of_input r.tables.archives.items archive.input ≡ Some archive) (sym same_open) (subst (λ (x : OpenedArchive). archive_of_input old.tables.archives.items x.input ≡ Some x) (sym one) found) in
-    let took = searches (subst (λ r. IsLink files r) (sym same_open) is) found_there (ap (λ (x : OpenedArchive). files.file x.input) one ∙ file_is) in
-    let here = subst (λ (x : OpenedArchive). OnOk result (TookMembers old searched (archive_again (linking_of old) (open_archive old.tables.entries.items old.taken.items x) members))) one
-    (subst (λ (r : Resolver). OnOk result (TookMembers r searched (archive_again (linking_of r) (open_archive r.tables.entries.items r.taken.items archive) members))) same_open took) in
-    let made = archive_again (linking_of old) (open_archive old.tables.entries.items old.taken.items a) members in
-    on_ok_then (TookMembers old searched made) (TookMembers old new made) result (λ done. record {
-      makes = ap (λ (r : Resolver). linking_of r) left ∙ done.makes;
-      headers = ap (λ (r : Resolver). r.room.headers) left ∙ done.headers;
-      libraries = ap (λ (r : Resolver). r.libraries) left ∙ done.libraries;
-      tables = ap (λ (r : Resolver). r.tables) left ∙ done.tables;
-      states = ap (λ (r : Resolver). r.states) left ∙ done.states;
-      groups = ap (λ (r : Resolver). r.groups) left ∙ done.groups;
-      count = ap (λ (r : Resolver). length r.taken.items) left ∙ done.count;
-      lists = record {
-        offers = ap (λ (r : Resolver). r.offers) left ∙ done.lists.offers;
-        further = ap (λ (r : Resolver). r.further) left ∙ done.lists.further;
-        spare = ap (λ (r : Resolver). r.spare) left ∙ done.lists.spare;
-        kinds = ap (λ (r : Resolver). r.kinds) left ∙ done.lists.kinds;
-        problems = ap (λ (r : Resolver). r.problems) left ∙ done.lists.problems;
-        most_rows = ap (λ (r : Resolver). r.link.rows.most) left ∙ done.lists.most_rows;
-      };
-      limits = limits_then old.link.keys searched.link.keys new.link.keys done.limits (limits_same searched.link.keys new.link.keys (ap (λ (r : Resolver). r.link.keys) left));
-    }) here
+-- what holds of an archive, for one that is the same
+pub of_archive : {archive a : OpenedArchive} → (P Q : OpenedArchive → Type 0) → archive ≡ a → (P archive → Q archive) → P a → Q a
+of_archive {archive} {a} P Q same step holds = subst Q same (step (subst P (sym same) holds))
 
 pub on_ok : {T E : Type 0} → (P : Type 0) (r : Result T E) (x : T) → r ≡ Ok x → OnOk r P → P
 on_ok P r x is holds = subst (λ q. OnOk q P) is holds

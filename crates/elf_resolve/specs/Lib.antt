@@ -52,3 +52,4 @@ pub mod KeyMarks
 pub mod LibraryNeeds
 pub mod SearchStops
 pub mod EndsAtRefusal
+pub mod ReadBudgets

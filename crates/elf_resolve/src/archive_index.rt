@@ -46,6 +46,7 @@ pub(crate) fn read_index<S: Source>(
     keys: &mut KeyTable<'_>,
 ) -> Result<(), LinkFault>
     ensures keeps { KeepsSource src.old.seen src.new.seen }
+    ensures most { src.new.most ≡ src.old.most }
     ensures members { tables.new.members ≡ tables.old.members }
     ensures archives { tables.new.archives ≡ tables.old.archives }
     ensures within { KeepsWithin tables.old tables.new }
@@ -179,6 +180,7 @@ fn index_parts<S: Source>(
     strings: &mut StringBuffer,
 ) -> Result<IndexParts, LinkFault>
     ensures keeps { KeepsSource src.old.seen src.new.seen }
+    ensures most { src.new.most ≡ src.old.most }
     ensures finds { (file : List ℕ) → src.old.seen.file ≡ Some file →
         FindsIndex file strings.new.bytes result }
 {
@@ -202,6 +204,7 @@ fn read_parts<S: Source>(
 ) -> Result<IndexParts, LinkFault>
     requires { (0 < width) × (width ≤ 8) }
     ensures keeps { KeepsSource src.old.seen src.new.seen }
+    ensures most { src.new.most ≡ src.old.most }
     ensures finds { (file : List ℕ) (members : List LinkMember) → src.old.seen.file ≡ Some file →
         extent.at + extent.size ≤ length file → extent.at + extent.size < 2 ^ 63 →
         FindsParts file members width (extent_of extent) strings.new.bytes result }

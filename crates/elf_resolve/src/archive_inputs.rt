@@ -1,26 +1,23 @@
 //! The archives among the inputs of a link, and which of their members are taken.
-ghost use Rattle.std.specs.Prelude.{◌≡◌, ◌≤◌, ◌++◌, ℕ, List, [], ◌∷◌, Err, OnOk, IfErr, IfOk, IsErr, None, Some, drop, false, length, map, replicate};
+ghost use Rattle.std.specs.Prelude.{◌≡◌, ◌≤◌, ◌++◌, ℕ, List, Err, OnOk, IfErr, IfOk, IsErr, None, Some, drop, false, length, map, replicate};
 ghost use Rattle.std.specs.List.{slice_get};
-ghost use Rattle.elf_model.specs.Archive.{bytes_in};
-ghost use Rattle.elf_model.specs.LinkArchives.{LinkFiles, LinkMember, files_as_inputs, link_members, member_bytes, members_as_objects, members_refusal, or_empty, whole_members};
-ghost use Rattle.elf_model.specs.LinkInputs.{archive_again, input_taken, members_taken, whole_row, with_object};
-ghost use Rattle.elf_model.specs.LinkPasses.{archive_searched};
-ghost use Rattle.elf_model.specs.LinkSymbols.{object_of};
+ghost use Rattle.elf_model.specs.LinkArchives.{LinkFiles, files_as_inputs, link_members, members_as_objects, members_refusal};
+ghost use Rattle.elf_model.specs.LinkInputs.{archive_again, input_taken};
 ghost use Rattle.elf_resolve.specs.LinkMembers.{file_of_range};
-ghost use Rattle.elf_resolve.specs.OpenedArchives.{HasMembers, SameOutside, archive_in, archive_of_input};
-ghost use Rattle.elf_resolve.specs.Passing.{TookObject, pass_of};
-ghost use Rattle.elf_resolve.specs.Ranges.{IsRangeOf};
-ghost use Rattle.elf_resolve.specs.Resolved.{elements_in, linking_of, open_archive};
+ghost use Rattle.elf_resolve.specs.OpenedArchives.{archive_of_input};
+ghost use Rattle.elf_resolve.specs.Resolved.{linking_of, open_archive};
 ghost use Rattle.elf_resolve.specs.ResolvedInputs.{EntersIndex, IsArchiveAt, IsLink, KeepsArchives, KeptArchive, OpenedAs, TookInput, TookMembers};
 ghost use Rattle.elf_model.specs.declared.link_states.LinkRow.{LinkRow};
 ghost use Rattle.elf_resolve.specs.EndsAtRefusal.{IsFaultOfIndex, LeavesRows, NoneRefused, StopsLink};
 ghost use Rattle.elf_resolve.specs.SearchStops.{EndsSearch, StopsWith};
 ghost use Rattle.elf_resolve.specs.Taken.{IsLinkFault, header_of};
 ghost use Rattle.elf_resolve.specs.NamedRows.{KeepsRowNames};
+ghost use Rattle.elf_resolve.specs.ReadBudgets.{KeepsToBudget};
 
 use crate::archive_index::read_index;
 use crate::archive_searches::{add_marks, element_at, member_row, search_members};
 use crate::archives::OpenedArchive;
+use crate::budgeted_files::BudgetedFiles;
 use crate::link_faults::{LinkFault, refused};
 use crate::link_files::InputFiles;
 use crate::resolver::{InputState, Resolver};
@@ -50,6 +47,7 @@ impl Resolver<'_> {
         ensures names { (files : LinkFiles) (file : List ℕ) → IsLink files self.old →
             IsArchiveAt files file self.old src.old.seen is_whole input →
             OnOk result (KeepsRowNames files self.old self.new) }
+        ensures most { src.new.most ≡ src.old.most }
     {
         let archive = self.open_archive(src, is_whole, input)?;
         if is_whole {
@@ -71,6 +69,7 @@ impl Resolver<'_> {
         input: u32,
     ) -> Result<OpenedArchive, LinkFault>
         ensures below { src.new.seen.whole ≡ src.old.seen.whole }
+        ensures most { src.new.most ≡ src.old.most }
         ensures opens { (file : List ℕ) → src.old.seen.file ≡ Some file →
             length self.old.taken.items ≡ length self.old.tables.members.items →
             IfOk result (OpenedAs file is_whole input self.old self.new) }
@@ -122,6 +121,7 @@ impl Resolver<'_> {
         first: usize,
     ) -> Result<(), LinkFault>
         ensures below { src.new.seen.whole ≡ src.old.seen.whole }
+        ensures most { src.new.most ≡ src.old.most }
         ensures keeps { KeepsArchives self.old self.new }
         ensures row { self.new.row ≡ self.old.row }
         ensures names { self.new.room.names ≡ self.old.room.names }
@@ -165,15 +165,15 @@ impl Resolver<'_> {
     /// The first fault of the members that are taken.
     pub(crate) fn search_again<F: InputFiles>(
         &mut self,
-        files: &mut F,
+        files: &mut BudgetedFiles<F>,
         archive: usize,
     ) -> Result<(), LinkFault>
-        ensures file { F.file files.new ≡ F.file files.old }
+        ensures file { F.file files.new.files ≡ F.file files.old.files }
         ensures searches { (all : LinkFiles) (a : OpenedArchive) (file : List ℕ) →
             IsLink all self.old →
             slice_get self.old.tables.archives.items archive ≡ Some a →
             archive_of_input self.old.tables.archives.items a.input ≡ Some a →
-            all.file a.input ≡ Some file → F.file files.old a.input ≡ Some file →
+            all.file a.input ≡ Some file → F.file files.old.files a.input ≡ Some file →
             OnOk result (TookMembers self.old self.new (archive_again (linking_of self.old)
             (open_archive self.old.tables.entries.items self.old.taken.items a)
             (members_as_objects file (link_members file).members all.headers))) }
@@ -181,25 +181,26 @@ impl Resolver<'_> {
             IsLink all self.old →
             slice_get self.old.tables.archives.items archive ≡ Some a →
             archive_of_input self.old.tables.archives.items a.input ≡ Some a →
-            all.file a.input ≡ Some file → F.file files.old a.input ≡ Some file →
+            all.file a.input ≡ Some file → F.file files.old.files a.input ≡ Some file →
             NoneRefused all self.old.link.rows.rows →
             LeavesRows all ⊥ self.new (archive_again (linking_of self.old)
             (open_archive self.old.tables.entries.items self.old.taken.items a)
             (members_as_objects file (link_members file).members all.headers)).rows result }
-        ensures text { F.text files.new ≡ F.text files.old }
+        ensures text { F.text files.new.files ≡ F.text files.old.files }
+        ensures spends { KeepsToBudget files.old.budget files.new.budget }
         ensures names { (all : LinkFiles) (a : OpenedArchive) (file : List ℕ) →
             IsLink all self.old →
             slice_get self.old.tables.archives.items archive ≡ Some a →
             archive_of_input self.old.tables.archives.items a.input ≡ Some a →
-            all.file a.input ≡ Some file → F.file files.old a.input ≡ Some file →
+            all.file a.input ≡ Some file → F.file files.old.files a.input ≡ Some file →
             OnOk result (KeepsRowNames all self.old self.new) }
     {
         let Some(archive) = element_at(&self.tables.archives, archive) else {
             return Ok(());
         };
-        let mut src = self.open(files, archive.input)?;
+        let mut src = files.open(archive.input)?;
         let taken = self.search(&mut src, archive);
-        self.close(&src);
+        files.close(&src);
         taken
     }
 
@@ -229,6 +230,7 @@ impl Resolver<'_> {
             archive_of_input self.old.tables.archives.items archive.input ≡ Some archive →
             files.file archive.input ≡ Some file → file_of_range src.old.seen ≡ Some file →
             OnOk result (KeepsRowNames files self.old self.new) }
+        ensures most { src.new.most ≡ src.old.most }
     {
         let found = search_members(
             &mut self.link,

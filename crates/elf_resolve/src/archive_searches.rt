@@ -62,6 +62,7 @@ pub(crate) fn take_member<S: Source>(
     keys: &mut KeyTable<'_>,
 ) -> Result<(), LinkFault>
     ensures below { src.new.seen.whole ≡ src.old.seen.whole }
+    ensures most { src.new.most ≡ src.old.most }
     ensures headers { room.new.headers ≡ room.old.headers }
     ensures takes { (file : List ℕ) → file_of_range src.old.seen ≡ Some file →
         HasMembers file tables.now.members.items place.archive →
@@ -135,6 +136,7 @@ pub(crate) fn search_members<S: Source>(
         HasMembers file tables.now.members.items archive → OnOk result.ended
         (KeepsMemberNames archive.input (member_names (Some file)) link.old.rows.rows
         link.new.rows.rows room.old.names room.new.names) }
+    ensures most { src.new.most ≡ src.old.most }
 {
     let members = range_of(&tables.members, archive.members);
     let entries = range_of(&tables.entries, archive.entries);

@@ -1,5 +1,5 @@
 //! The archives of a link: their members, and the entries of their indexes.
-ghost use Rattle.std.specs.Prelude.{◌≡◌, ◌<◌, ◌^◌, [], IfOk, List, ℕ, Some, drop, length, map};
+ghost use Rattle.std.specs.Prelude.{◌≡◌, ◌<◌, ◌≤◌, ◌^◌, [], IfOk, OnErr, List, ℕ, Some, drop, get_or, length, map};
 ghost use Rattle.std.specs.List.Sorted.{IsStrictlyIncreasing};
 ghost use Rattle.elf_archive.specs.Members.{extent_of, extent_of_names, names_passed};
 ghost use Rattle.elf_model.specs.LinkArchives.{LinkMember, link_member_at};
@@ -80,6 +80,7 @@ impl ArchiveTables {
         src: &mut Counted<S>,
     ) -> Result<Option<FileRange>, LinkFault>
         ensures keeps { KeepsSource src.old.seen src.new.seen }
+        ensures most { src.new.most ≡ src.old.most }
         ensures archives { self.new.archives ≡ self.old.archives }
         ensures entries { self.new.entries ≡ self.old.entries }
         ensures limit { self.new.most ≡ self.old.most }
@@ -100,6 +101,7 @@ impl ArchiveTables {
         src: &mut Counted<S>,
     ) -> Result<Option<FileRange>, LinkFault>
         ensures keeps { KeepsSource src.old.seen src.new.seen }
+        ensures most { src.new.most ≡ src.old.most }
         ensures archives { self.new.archives ≡ self.old.archives }
         ensures entries { self.new.entries ≡ self.old.entries }
         ensures limit { self.new.most ≡ self.old.most }
@@ -169,6 +171,21 @@ fn first_table(
 
 /// Reads the header of the member at an offset, and returns its data.
 ///
+/// Returns the file offset of the header of a member.
+///
+/// # Errors
+/// There is no such member.
+pub(crate) fn place_of(members: &[u64], member: u32) -> Result<u64, LinkFault>
+    ensures place { IfOk result (λ at. (member < length members.now)
+        × (at ≡ get_or members.now member 0)) }
+    ensures none { OnErr result (length members.now ≤ member) }
+{
+    match members.get(member as usize) {
+        Some(at) => Ok(*at),
+        None => Err(member_cut(0)),
+    }
+}
+
 /// # Errors
 /// `MemberCut` there if there is none, or it does not lie within the file; those of reading it.
 pub(crate) fn read_header_at<S: Source>(
@@ -178,6 +195,7 @@ pub(crate) fn read_header_at<S: Source>(
 ) -> Result<FileRange, LinkFault>
     ensures lies { IfOk result (λ extent. LiesAfterHeader at extent.at extent.size) }
     ensures keeps { KeepsSource src.old.seen src.new.seen }
+    ensures most { src.new.most ≡ src.old.most }
     ensures reads { (file : List ℕ) → src.old.seen.file ≡ Some file →
         ReadsMemberHeader file at header.new result }
 {

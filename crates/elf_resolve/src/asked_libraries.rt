@@ -1,4 +1,6 @@
 //! A shared library that is read: its name, and whether it is needed.
+ghost use Rattle.std.specs.Prelude.{◌≡◌};
+
 use crate::libraries::{LibraryList, LinkLibrary};
 use crate::library::{DynamicRows, LibraryTables, read_library};
 use crate::library_needs::library_need;
@@ -22,7 +24,9 @@ pub(crate) fn read_library_tables<S: Source>(
     view: &SectionView<'_>,
     room: &mut TableRoom,
     row: u32,
-) -> Result<LibraryTables, LinkFault> {
+) -> Result<LibraryTables, LinkFault>
+    ensures most { src.new.most ≡ src.old.most }
+{
     read_library(src, view, &mut room.strings, &mut room.versions, row)
 }
 
@@ -36,7 +40,9 @@ pub(crate) fn open_library<S: Source>(
     keys: &mut KeyTable<'_>,
     libraries: &mut LibraryList,
     opened: NewLibrary<'_>,
-) -> Result<LibraryEnd, LinkFault> {
+) -> Result<LibraryEnd, LinkFault>
+    ensures most { src.new.most ≡ src.old.most }
+{
     let head = linked_header(src, ET_DYN)?;
     let slots = slots_for(room.headers, &head);
     reach_slots(&mut room.header_bytes, slots)?;
@@ -60,7 +66,9 @@ fn add_library<S: Source>(
     keys: &mut KeyTable<'_>,
     libraries: &mut LibraryList,
     opened: NewLibrary<'_>,
-) -> Result<LibraryEnd, LinkFault> {
+) -> Result<LibraryEnd, LinkFault>
+    ensures most { src.new.most ≡ src.old.most }
+{
     let tables = read_library_tables(src, view, room, opened.row)?;
     let dynamic = tables.dynamic;
     let name = library_name(dynamic, &room.strings, libraries, opened.path)?;
@@ -103,7 +111,9 @@ pub(crate) fn reopen_library<S: Source>(
     keys: &mut KeyTable<'_>,
     libraries: &mut LibraryList,
     known: (usize, u32),
-) -> Result<LibraryEnd, LinkFault> {
+) -> Result<LibraryEnd, LinkFault>
+    ensures most { src.new.most ≡ src.old.most }
+{
     let (library, row) = known;
     let head = linked_header(src, ET_DYN)?;
     let slots = slots_for(room.headers, &head);

@@ -1,21 +1,18 @@
 //! The inputs of a link that are taken for the first time.
-ghost use Rattle.std.specs.Prelude.{◌≡◌, ◌≢◌, ◌+◌, ◌<◌, ◌∷◌, [], false, ℕ, List, length, map, IfErr, IfOk, OnOk, None, Ok, Some};
+ghost use Rattle.std.specs.Prelude.{◌≡◌, ◌<◌, false, ℕ, List, OnOk, Ok, Some};
 ghost use Rattle.std.specs.List.{slice_get};
-ghost use Rattle.std.proofs.Math.ListN.{set};
 ghost use Rattle.elf_model.specs.LinkArchives.{LinkFiles, files_as_inputs};
-ghost use Rattle.elf_model.specs.LinkInputs.{LinkInputs, Linking, file_row, input_taken, linked, with_arguments};
-ghost use Rattle.elf_source.specs.Prelude.{IsWholeRange};
+ghost use Rattle.elf_model.specs.LinkInputs.{input_taken};
 ghost use Rattle.elf_resolve.specs.EndsAtRefusal.{LeavesRows, NoneRefused};
-ghost use Rattle.elf_resolve.specs.Taken.{IsLinkFault};
 ghost use Rattle.elf_resolve.specs.LinkMembers.{file_of_range};
-ghost use Rattle.elf_resolve.specs.LinkPlaces.{IsLinkAt, input_made, is_new_input};
-ghost use Rattle.elf_resolve.specs.Plans.{IsStaticPlan, planned_files, plan_steps};
 ghost use Rattle.elf_resolve.specs.Resolved.{linking_of};
 ghost use Rattle.elf_resolve.specs.NamedRows.{KeepsRowNames};
-ghost use Rattle.elf_resolve.specs.ResolvedInputs.{AddedRowOf, AskedNames, IsAtStep, IsFresh, IsLink, IsPlanned, OpenedGroup, TookAll, TookInput};
+ghost use Rattle.elf_resolve.specs.ResolvedInputs.{IsLink, IsPlanned, TookInput};
+ghost use Rattle.elf_resolve.specs.ReadBudgets.{KeepsToBudget};
 
+use crate::budgeted_files::BudgetedFiles;
 use crate::link_faults::{LinkFault, refused};
-use crate::link_files::{InputFiles, InputKind, LinkInput, OpenFault};
+use crate::link_files::{InputFiles, InputKind, LinkInput};
 use crate::needed_libraries::NewLibrary;
 use crate::object::take_object;
 use crate::resolver::{InputState, Resolver};
@@ -29,24 +26,25 @@ impl Resolver<'_> {
     /// The first fault of the input.
     pub(crate) fn take_input<F: InputFiles>(
         &mut self,
-        files: &mut F,
+        files: &mut BudgetedFiles<F>,
         input: LinkInput,
         index: u32,
     ) -> Result<(), LinkFault>
-        ensures file { F.file files.new ≡ F.file files.old }
-        ensures takes { (all : LinkFiles) → IsPlanned all (F.file files.old) index input →
+        ensures file { F.file files.new.files ≡ F.file files.old.files }
+        ensures takes { (all : LinkFiles) → IsPlanned all (F.file files.old.files) index input →
             IsLink all self.old →
             slice_get self.old.states.items index ≡ Some InputState.New →
             OnOk result (TookInput all self.old self.new index
             (input_taken (linking_of self.old) index (files_as_inputs all index))) }
-        ensures leaves { (all : LinkFiles) → IsPlanned all (F.file files.old) index input →
+        ensures leaves { (all : LinkFiles) → IsPlanned all (F.file files.old.files) index input →
             IsLink all self.old →
             slice_get self.old.states.items index ≡ Some InputState.New →
             NoneRefused all self.old.link.rows.rows →
             LeavesRows all (input.kind ≡ InputKind.BadScript) self.new
             (input_taken (linking_of self.old) index (files_as_inputs all index)).rows result }
-        ensures text { F.text files.new ≡ F.text files.old }
-        ensures names { (all : LinkFiles) → IsPlanned all (F.file files.old) index input →
+        ensures text { F.text files.new.files ≡ F.text files.old.files }
+        ensures spends { KeepsToBudget files.old.budget files.new.budget }
+        ensures names { (all : LinkFiles) → IsPlanned all (F.file files.old.files) index input →
             IsLink all self.old →
             slice_get self.old.states.items index ≡ Some InputState.New →
             OnOk result (KeepsRowNames all self.old self.new) }
@@ -59,26 +57,28 @@ impl Resolver<'_> {
     ///
     /// # Errors
     /// The first fault of the input.
+    #[tactic(auto, using(crate::proofs::ReadBudgetLaws::spends_none))]
     fn take_kind<F: InputFiles>(
         &mut self,
-        files: &mut F,
+        files: &mut BudgetedFiles<F>,
         input: LinkInput,
         index: u32,
     ) -> Result<(), LinkFault>
-        ensures file { F.file files.new ≡ F.file files.old }
-        ensures takes { (all : LinkFiles) → IsPlanned all (F.file files.old) index input →
+        ensures file { F.file files.new.files ≡ F.file files.old.files }
+        ensures takes { (all : LinkFiles) → IsPlanned all (F.file files.old.files) index input →
             IsLink all self.old →
             slice_get self.old.states.items index ≡ Some InputState.Done →
             OnOk result (TookInput all self.old self.new index
             (input_taken (linking_of self.old) index (files_as_inputs all index))) }
-        ensures leaves { (all : LinkFiles) → IsPlanned all (F.file files.old) index input →
+        ensures leaves { (all : LinkFiles) → IsPlanned all (F.file files.old.files) index input →
             IsLink all self.old →
             slice_get self.old.states.items index ≡ Some InputState.Done →
             NoneRefused all self.old.link.rows.rows →
             LeavesRows all (input.kind ≡ InputKind.BadScript) self.new
             (input_taken (linking_of self.old) index (files_as_inputs all index)).rows result }
-        ensures text { F.text files.new ≡ F.text files.old }
-        ensures names { (all : LinkFiles) → IsPlanned all (F.file files.old) index input →
+        ensures text { F.text files.new.files ≡ F.text files.old.files }
+        ensures spends { KeepsToBudget files.old.budget files.new.budget }
+        ensures names { (all : LinkFiles) → IsPlanned all (F.file files.old.files) index input →
             IsLink all self.old →
             slice_get self.old.states.items index ≡ Some InputState.Done →
             OnOk result (KeepsRowNames all self.old self.new) }
@@ -104,68 +104,32 @@ impl Resolver<'_> {
     /// It cannot be opened; the first fault of the file.
     fn read_input<F: InputFiles>(
         &mut self,
-        files: &mut F,
+        files: &mut BudgetedFiles<F>,
         input: LinkInput,
         index: u32,
     ) -> Result<(), LinkFault>
-        ensures file { F.file files.new ≡ F.file files.old }
-        ensures takes { (all : LinkFiles) (file : List ℕ) →
-            IsPlanned all (F.file files.old) index input →
-            F.file files.old index ≡ Some file → all.file index ≡ Some file → IsLink all self.old →
-            slice_get self.old.states.items index ≡ Some InputState.Done →
-            OnOk result (TookInput all self.old self.new index
-            (input_taken (linking_of self.old) index (files_as_inputs all index))) }
-        ensures leaves { (all : LinkFiles) (file : List ℕ) →
-            IsPlanned all (F.file files.old) index input →
-            F.file files.old index ≡ Some file → all.file index ≡ Some file → IsLink all self.old →
-            slice_get self.old.states.items index ≡ Some InputState.Done →
-            NoneRefused all self.old.link.rows.rows → LeavesRows all ⊥ self.new
-            (input_taken (linking_of self.old) index (files_as_inputs all index)).rows result }
-        ensures text { F.text files.new ≡ F.text files.old }
-        ensures names { (all : LinkFiles) (file : List ℕ) →
-            IsPlanned all (F.file files.old) index input →
-            F.file files.old index ≡ Some file → all.file index ≡ Some file → IsLink all self.old →
-            slice_get self.old.states.items index ≡ Some InputState.Done →
+        ensures file { F.file files.new.files ≡ F.file files.old.files }
+        ensures takes { (all : LinkFiles) (file : List ℕ) → IsPlanned all (F.file files.old.files)
+            index input → F.file files.old.files index ≡ Some file → all.file index ≡ Some file →
+            IsLink all self.old → slice_get self.old.states.items index ≡ Some InputState.Done →
+            OnOk result (TookInput all self.old self.new index (input_taken (linking_of self.old)
+            index (files_as_inputs all index))) }
+        ensures leaves { (all : LinkFiles) (file : List ℕ) → IsPlanned all (F.file files.old.files)
+            index input → F.file files.old.files index ≡ Some file → all.file index ≡ Some file →
+            IsLink all self.old → slice_get self.old.states.items index ≡ Some InputState.Done →
+            NoneRefused all self.old.link.rows.rows → LeavesRows all ⊥ self.new (input_taken
+            (linking_of self.old) index (files_as_inputs all index)).rows result }
+        ensures text { F.text files.new.files ≡ F.text files.old.files }
+        ensures spends { KeepsToBudget files.old.budget files.new.budget }
+        ensures names { (all : LinkFiles) (file : List ℕ) → IsPlanned all (F.file files.old.files)
+            index input → F.file files.old.files index ≡ Some file → all.file index ≡ Some file →
+            IsLink all self.old → slice_get self.old.states.items index ≡ Some InputState.Done →
             OnOk result (KeepsRowNames all self.old self.new) }
     {
-        let mut src = self.open(files, index)?;
-        let taken = self.take_file(files, &mut src, input, index);
-        self.close(&src);
+        let mut src = files.open(index)?;
+        let taken = self.take_file(&files.files, &mut src, input, index);
+        files.close(&src);
         taken
-    }
-
-    /// Opens the file of an input, of which no more is read than is left of the budget.
-    ///
-    /// # Errors
-    /// It cannot be opened.
-    pub(crate) fn open<F: InputFiles>(
-        &mut self,
-        files: &mut F,
-        input: u32,
-    ) -> Result<Counted<RangeSource<F::InputSource>>, LinkFault>
-        ensures same { self.new ≡ self.old }
-        ensures file { F.file files.new ≡ F.file files.old }
-        ensures text { F.text files.new ≡ F.text files.old }
-        ensures opens { (file : List ℕ) → F.file files.old input ≡ Some file → IfOk result
-            (λ src. (src.seen.file ≡ Some file) × (file_of_range src.seen ≡ Some file)) }
-        ensures limit { IfErr result (IsLinkFault None) }
-    {
-        match files.open(input) {
-            Ok(source) => {
-                let mut src = Counted::new(RangeSource::new(source));
-                src.limit(self.left);
-                Ok(src)
-            }
-            Err(OpenFault::Open) => Err(LinkFault::Open),
-            Err(OpenFault::Read) => Err(LinkFault::Read),
-        }
-    }
-
-    /// Subtracts from the budget what was requested of a file.
-    pub(crate) fn close<S: Source>(&mut self, src: &Counted<S>)
-        ensures { self.new ≡ record self.old { left = self.new.left } }
-    {
-        self.left = src.left();
     }
 
     /// Takes the file of an input.
@@ -199,6 +163,7 @@ impl Resolver<'_> {
             file_of_range src.old.seen ≡ Some file → all.file index ≡ Some file →
             slice_get self.old.states.items index ≡ Some InputState.Done →
             OnOk result (KeepsRowNames all self.old self.new) }
+        ensures most { src.new.most ≡ src.old.most }
     {
         match input.kind {
             InputKind::Archive => self.take_archive(src, input.is_whole, index),
@@ -219,7 +184,9 @@ impl Resolver<'_> {
         src: &mut Counted<RangeSource<F::InputSource>>,
         input: LinkInput,
         index: u32,
-    ) -> Result<(), LinkFault> {
+    ) -> Result<(), LinkFault>
+        ensures most { src.new.most ≡ src.old.most }
+    {
         let row = self.add_row(LinkRowKind::Shared, index)?;
         self.take_library(
             src,
@@ -249,6 +216,7 @@ impl Resolver<'_> {
             NoneRefused all self.old.link.rows.rows → LeavesRows all ⊥ self.new
             (input_taken (linking_of self.old) index (files_as_inputs all index)).rows result }
         ensures names { (all : LinkFiles) → OnOk result (KeepsRowNames all self.old self.new) }
+        ensures most { src.new.most ≡ src.old.most }
     {
         let row = self.add_row(LinkRowKind::Object, index)?;
         take_object(src, &mut self.room, &mut self.link.keys, row)

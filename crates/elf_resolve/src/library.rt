@@ -1,4 +1,6 @@
 //! A shared library of a link: its symbols with their versions, and what its dynamic entries say.
+ghost use Rattle.std.specs.Prelude.{◌≡◌};
+
 use crate::libraries::LibraryList;
 use crate::link_faults::{LinkFault, file_refused};
 use crate::object::{SymbolRows, read_first_symbols, read_names};
@@ -62,7 +64,9 @@ pub(crate) fn read_library<S: Source>(
     strings: &mut StringBuffer,
     versions: &mut VersionNames,
     row: u32,
-) -> Result<LibraryTables, LinkFault> {
+) -> Result<LibraryTables, LinkFault>
+    ensures most { src.new.most ≡ src.old.most }
+{
     strings.forget_after(0);
     versions.clear();
     let symbols = read_first_symbols(src, view, SHT_DYNSYM, strings)?;
@@ -87,7 +91,9 @@ fn read_dynamic<S: Source>(
     src: &mut Counted<S>,
     view: &SectionView<'_>,
     strings: &mut StringBuffer,
-) -> Result<Option<DynamicRows>, LinkFault> {
+) -> Result<Option<DynamicRows>, LinkFault>
+    ensures most { src.new.most ≡ src.old.most }
+{
     let Some(section) = view.first(SHT_DYNAMIC) else {
         return Ok(None);
     };
@@ -115,7 +121,9 @@ fn read_version_rows<S: Source>(
     src: &mut Counted<S>,
     view: &SectionView<'_>,
     strings: &mut StringBuffer,
-) -> Result<Option<VersionRows>, LinkFault> {
+) -> Result<Option<VersionRows>, LinkFault>
+    ensures most { src.new.most ≡ src.old.most }
+{
     let Some(section) = view.first(SHT_GNU_VERSYM) else {
         return Ok(None);
     };
@@ -136,7 +144,9 @@ fn read_version_names<S: Source>(
     view: &SectionView<'_>,
     strings: &mut StringBuffer,
     versions: &mut VersionNames,
-) -> Result<(), LinkFault> {
+) -> Result<(), LinkFault>
+    ensures most { src.new.most ≡ src.old.most }
+{
     if let Some(table) = read_records(src, view, SHT_GNU_VERDEF, strings)? {
         versions.read_definitions(strings, table)?;
     }
@@ -155,7 +165,9 @@ fn read_records<S: Source>(
     view: &SectionView<'_>,
     kind: u32,
     strings: &mut StringBuffer,
-) -> Result<Option<VersionSection>, LinkFault> {
+) -> Result<Option<VersionSection>, LinkFault>
+    ensures most { src.new.most ≡ src.old.most }
+{
     let Some(section) = view.first(kind) else {
         return Ok(None);
     };

@@ -1,20 +1,19 @@
 //! The steps of a link: its inputs in order, and groups of them.
-ghost use Rattle.std.specs.Prelude.{◌≡◌, ◌≢◌, ◌+◌, ◌<◌, ◌∷◌, [], false, ℕ, List, length, map, IfErr, IfOk, OnOk, None, Ok, Some};
+ghost use Rattle.std.specs.Prelude.{◌≡◌, ◌+◌, ◌<◌, ℕ, List, IfErr, IfOk, OnOk, None, Ok, Some};
 ghost use Rattle.std.specs.List.{slice_get};
-ghost use Rattle.std.proofs.Math.ListN.{set};
 ghost use Rattle.elf_model.specs.LinkArchives.{LinkFiles, files_as_inputs};
-ghost use Rattle.elf_model.specs.LinkInputs.{LinkInputs, Linking, file_row, input_taken, linked, with_arguments};
-ghost use Rattle.elf_source.specs.Prelude.{IsWholeRange};
+ghost use Rattle.elf_model.specs.LinkInputs.{Linking};
 ghost use Rattle.elf_resolve.specs.EndsAtRefusal.{HasBadScript, LeavesRows, NoneRefused};
 ghost use Rattle.elf_resolve.specs.Taken.{IsLinkFault};
-ghost use Rattle.elf_resolve.specs.LinkMembers.{file_of_range};
-ghost use Rattle.elf_resolve.specs.LinkPlaces.{IsLinkAt, input_made, is_new_input};
-ghost use Rattle.elf_resolve.specs.Plans.{IsStaticPlan, planned_files, plan_steps};
+ghost use Rattle.elf_resolve.specs.LinkPlaces.{input_made, is_new_input};
+ghost use Rattle.elf_resolve.specs.Plans.{IsStaticPlan, planned_files};
 ghost use Rattle.elf_resolve.specs.Resolved.{linking_of};
 ghost use Rattle.elf_resolve.specs.NamedRows.{KeepsRowNames};
-ghost use Rattle.elf_resolve.specs.ResolvedInputs.{AddedRowOf, AskedNames, IsAtStep, IsFresh, IsLink, IsPlanned, OpenedGroup, TookAll, TookInput};
+ghost use Rattle.elf_resolve.specs.ResolvedInputs.{IsAtStep, IsLink, OpenedGroup, TookAll, TookInput};
+ghost use Rattle.elf_resolve.specs.ReadBudgets.{KeepsToBudget};
 
 use crate::archive_searches::element_at;
+use crate::budgeted_files::BudgetedFiles;
 use crate::link_faults::{LinkFault, refused};
 use crate::link_files::{InputFiles, LinkPlan, LinkStep};
 use crate::resolver::{InputState, OpenGroup, Resolver};
@@ -25,24 +24,26 @@ impl Resolver<'_> {
     ///
     /// # Errors
     /// The first fault of an input.
+    #[tactic(auto, using(crate::proofs::ReadBudgetLaws::spends_none))]
     pub(crate) fn take_steps<F: InputFiles>(
         &mut self,
-        files: &mut F,
+        files: &mut BudgetedFiles<F>,
         plan: &LinkPlan,
     ) -> Result<(), LinkFault>
         ensures takes { (headers : ℕ) (whole : Linking) →
-            IsStaticPlan (F.file files.old) plan.now →
-            let all = planned_files (F.file files.old) plan.now headers in
+            IsStaticPlan (F.file files.old.files) plan.now →
+            let all = planned_files (F.file files.old.files) plan.now headers in
             IsAtStep all plan.now whole self.old 0 → OnOk result (TookAll all self.new whole) }
         ensures leaves { (headers : ℕ) (whole : Linking) →
-            IsStaticPlan (F.file files.old) plan.now →
-            let all = planned_files (F.file files.old) plan.now headers in
+            IsStaticPlan (F.file files.old.files) plan.now →
+            let all = planned_files (F.file files.old.files) plan.now headers in
             IsAtStep all plan.now whole self.old 0 → NoneRefused all self.old.link.rows.rows →
             LeavesRows all (HasBadScript plan.now) self.new whole.rows result }
-        ensures text { F.text files.new ≡ F.text files.old }
+        ensures text { F.text files.new.files ≡ F.text files.old.files }
+        ensures spends { KeepsToBudget files.old.budget files.new.budget }
         ensures names { (headers : ℕ) (whole : Linking) →
-            IsStaticPlan (F.file files.old) plan.now →
-            let all = planned_files (F.file files.old) plan.now headers in
+            IsStaticPlan (F.file files.old.files) plan.now →
+            let all = planned_files (F.file files.old.files) plan.now headers in
             IsAtStep all plan.now whole self.old 0 →
             OnOk result (KeepsRowNames all self.old self.new) }
     {
@@ -63,28 +64,30 @@ impl Resolver<'_> {
     ///
     /// # Errors
     /// The first fault of an input.
+    #[tactic(auto, using(crate::proofs::ReadBudgetLaws::spends_none))]
     fn take_step<F: InputFiles>(
         &mut self,
-        files: &mut F,
+        files: &mut BudgetedFiles<F>,
         plan: &LinkPlan,
         place: usize,
         next: usize,
     ) -> Result<usize, LinkFault>
-        ensures file { F.file files.new ≡ F.file files.old }
+        ensures file { F.file files.new.files ≡ F.file files.old.files }
         ensures steps { (headers : ℕ) (whole : Linking) →
-            IsStaticPlan (F.file files.old) plan.now → next ≡ place + 1 →
-            let all = planned_files (F.file files.old) plan.now headers in
+            IsStaticPlan (F.file files.old.files) plan.now → next ≡ place + 1 →
+            let all = planned_files (F.file files.old.files) plan.now headers in
             IsAtStep all plan.now whole self.old place →
             IfOk result (IsAtStep all plan.now whole self.new) }
         ensures leaves { (headers : ℕ) (whole : Linking) →
-            IsStaticPlan (F.file files.old) plan.now →
-            let all = planned_files (F.file files.old) plan.now headers in
+            IsStaticPlan (F.file files.old.files) plan.now →
+            let all = planned_files (F.file files.old.files) plan.now headers in
             IsAtStep all plan.now whole self.old place →
             NoneRefused all self.old.link.rows.rows →
             LeavesRows all (HasBadScript plan.now) self.new whole.rows result }
-        ensures text { F.text files.new ≡ F.text files.old }
-        ensures names { (headers : ℕ) → IsStaticPlan (F.file files.old) plan.now →
-            let all = planned_files (F.file files.old) plan.now headers in
+        ensures text { F.text files.new.files ≡ F.text files.old.files }
+        ensures spends { KeepsToBudget files.old.budget files.new.budget }
+        ensures names { (headers : ℕ) → IsStaticPlan (F.file files.old.files) plan.now →
+            let all = planned_files (F.file files.old.files) plan.now headers in
             IsLink all self.old → OnOk result (KeepsRowNames all self.old self.new) }
     {
         let Some(step) = element_at(&plan.steps, place) else {
@@ -148,27 +151,29 @@ impl Resolver<'_> {
     ///
     /// # Errors
     /// The first fault of the input.
+    #[tactic(auto, using(crate::proofs::ReadBudgetLaws::spends_none))]
     fn visit<F: InputFiles>(
         &mut self,
-        files: &mut F,
+        files: &mut BudgetedFiles<F>,
         plan: &LinkPlan,
         input: u32,
     ) -> Result<(), LinkFault>
-        ensures file { F.file files.new ≡ F.file files.old }
-        ensures visits { (headers : ℕ) → IsStaticPlan (F.file files.old) plan.now →
-            let all = planned_files (F.file files.old) plan.now headers in
+        ensures file { F.file files.new.files ≡ F.file files.old.files }
+        ensures visits { (headers : ℕ) → IsStaticPlan (F.file files.old.files) plan.now →
+            let all = planned_files (F.file files.old.files) plan.now headers in
             IsLink all self.old → OnOk result (TookInput all self.old self.new input
             (input_made (is_new_input self.old.states.items input) (linking_of self.old) input
             (files_as_inputs all input))) }
-        ensures leaves { (headers : ℕ) → IsStaticPlan (F.file files.old) plan.now →
-            let all = planned_files (F.file files.old) plan.now headers in
+        ensures leaves { (headers : ℕ) → IsStaticPlan (F.file files.old.files) plan.now →
+            let all = planned_files (F.file files.old.files) plan.now headers in
             IsLink all self.old → NoneRefused all self.old.link.rows.rows →
             LeavesRows all (HasBadScript plan.now) self.new
             (input_made (is_new_input self.old.states.items input) (linking_of self.old) input
             (files_as_inputs all input)).rows result }
-        ensures text { F.text files.new ≡ F.text files.old }
-        ensures names { (headers : ℕ) → IsStaticPlan (F.file files.old) plan.now →
-            let all = planned_files (F.file files.old) plan.now headers in
+        ensures text { F.text files.new.files ≡ F.text files.old.files }
+        ensures spends { KeepsToBudget files.old.budget files.new.budget }
+        ensures names { (headers : ℕ) → IsStaticPlan (F.file files.old.files) plan.now →
+            let all = planned_files (F.file files.old.files) plan.now headers in
             IsLink all self.old → OnOk result (KeepsRowNames all self.old self.new) }
     {
         let Some(known) = element_at(&plan.inputs, input as usize) else {

@@ -6,9 +6,8 @@ ghost use Rattle.elf_resolve.specs.LinkMembers.{ReturnsFileMember, file_of_range
 ghost use Rattle.elf_resolve.specs.Taken.{header_of};
 
 use crate::archive_index::is_index;
-use crate::archives::read_header_at;
+use crate::archives::{place_of, read_header_at};
 use crate::link_faults::LinkFault;
-use crate::members::place_of;
 use elf_archive::{MEMBER_HEADER_BYTES, is_name_table};
 use elf_source::{Counted, RangeSource, Source};
 
@@ -22,6 +21,7 @@ pub(crate) fn is_file<S: Source>(
     member: u32,
 ) -> Result<bool, LinkFault>
     ensures whole { src.new.seen.whole ≡ src.old.seen.whole }
+    ensures most { src.new.most ≡ src.old.most }
     ensures tells { (file : List ℕ) → file_of_range src.old.seen ≡ Some file →
         members_refusal file ≡ None → members.now ≡ map header_of (link_members file).members →
         ReturnsFileMember file member result }

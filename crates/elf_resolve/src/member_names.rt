@@ -82,6 +82,7 @@ impl NamesOfMembers {
         row: u32,
     ) -> Result<FileRange, LinkFault>
         ensures keeps { KeepsSource src.old.seen src.new.seen }
+        ensures most { src.new.most ≡ src.old.most }
         ensures lies { IfOk result (λ extent. LiesAfterHeader at extent.at extent.size) }
         ensures reads { (file : List ℕ) → src.old.seen.file ≡ Some file →
             IfSome (extent_of_names names) (IsInBounds (length file)) →
@@ -172,6 +173,7 @@ fn read_named<S: Source>(
     name: &mut NameBuf,
 ) -> Result<(FileRange, bool), LinkFault>
     ensures keeps { KeepsSource src.old.seen src.new.seen }
+    ensures most { src.new.most ≡ src.old.most }
     ensures lies { IfOk result (λ read. LiesAfterHeader at read.0.at read.0.size) }
     ensures reads { (file : List ℕ) → src.old.seen.file ≡ Some file →
         IfSome (extent_of_names names) (IsInBounds (length file)) →

@@ -1,8 +1,8 @@
 //! The members of an archive, as objects of a link.
-ghost use Rattle.std.specs.Prelude.{◌≡◌, ◌↔◌, ◌+◌, ◌-◌, ◌≤◌, ◌<◌, ◌||◌, ◌∷◌, [], true, false, IfErr, IfOk, IsSome, IsTrue, OnErr, OnOk, List, ℕ, Option, None, Ok, Some, bytes_eq, get_or, length, map};
+ghost use Rattle.std.specs.Prelude.{◌≡◌, ◌↔◌, ◌+◌, ◌-◌, ◌<◌, ◌||◌, ◌∷◌, true, false, IfErr, IfOk, IsSome, IsTrue, OnErr, OnOk, List, ℕ, Option, None, Ok, Some, bytes_eq, length};
 ghost use Rattle.elf_archive.specs.Members.{extent_of_names};
 ghost use Rattle.elf_model.specs.Bytes.{slice};
-ghost use Rattle.elf_model.specs.LinkArchives.{LinkFiles, link_members};
+ghost use Rattle.elf_model.specs.LinkArchives.{LinkFiles};
 ghost use Rattle.elf_model.specs.LinkPasses.{index_name, name_with_default};
 ghost use Rattle.elf_model.specs.LinkSymbols.{AT, defines_from, defines_if, is_that, link_name, symbol_table_in};
 ghost use Rattle.elf_model.specs.Tables.{SYMBOL_SIZE, entry_at};
@@ -13,10 +13,11 @@ ghost use Rattle.elf_resolve.specs.RowNames.{AddsName, member_names};
 ghost use Rattle.elf_resolve.specs.ObjectNames.{FindsInObject, definition_at};
 ghost use Rattle.elf_resolve.specs.ObjectTables.{HoldsSymbols, HoldsTables};
 ghost use Rattle.elf_resolve.specs.SearchStops.{KeepsFault, KeepsLimit, bytes_known, refusal_in};
+ghost use Rattle.elf_resolve.specs.ReadBudgets.{number_of_limit};
 ghost use Rattle.elf_resolve.specs.StringBuffers.{HoldsText};
-ghost use Rattle.elf_resolve.specs.Taken.{FindsDefinition, IsLimit, IsLinkFault, header_of};
+ghost use Rattle.elf_resolve.specs.Taken.{FindsDefinition, IsLimit, IsLinkFault};
 
-use crate::archives::{OpenedArchive, member_cut, read_header_at};
+use crate::archives::{OpenedArchive, member_cut, place_of, read_header_at};
 use crate::link_faults::{LinkFault, in_member};
 use crate::object::{ObjectTables, SymbolRows, linked_header, read_tables, take_object};
 use crate::object_symbols::{global_in, is_data_definition};
@@ -48,21 +49,6 @@ pub(crate) struct MembersOfArchive<'r, S: Source> {
     pub asked: Option<u32>,
 }
 
-/// Returns the file offset of the header of a member.
-///
-/// # Errors
-/// There is no such member.
-pub(crate) fn place_of(members: &[u64], member: u32) -> Result<u64, LinkFault>
-    ensures place { IfOk result (λ at. (member < length members.now)
-        × (at ≡ get_or members.now member 0)) }
-    ensures none { OnErr result (length members.now ≤ member) }
-{
-    match members.get(member as usize) {
-        Some(at) => Ok(*at),
-        None => Err(member_cut(0)),
-    }
-}
-
 /// Returns the table of names, if it is before the header at a file offset.
 fn names_before(names: Option<FileRange>, at: u64) -> Option<FileRange>
     ensures { extent_of_names result ≡ range_before (extent_of_names names) at }
@@ -85,6 +71,7 @@ impl<S: Source> MembersOfArchive<'_, S> {
         keys: &mut KeyTable<'_>,
     ) -> Result<(), LinkFault>
         ensures whole { self.new.src.now.seen.whole ≡ self.old.src.now.seen.whole }
+        ensures most { self.new.src.now.most ≡ self.old.src.now.most }
         ensures headers { self.new.room.now.headers ≡ self.old.room.now.headers }
         ensures archive { self.new.archive ≡ self.old.archive }
         ensures members { self.new.members.now ≡ self.old.members.now }
@@ -120,6 +107,7 @@ impl<S: Source> MembersOfArchive<'_, S> {
     /// Those of the member's header; it cannot be read, or there is no room for its tables.
     fn member_defines(&mut self, entry: IndexEntry, keys: &KeyTable<'_>) -> Result<bool, LinkFault>
         ensures whole { self.new.src.now.seen.whole ≡ self.old.src.now.seen.whole }
+        ensures most { self.new.src.now.most ≡ self.old.src.now.most }
         ensures headers { self.new.room.now.headers ≡ self.old.room.now.headers }
         ensures archive { self.new.archive ≡ self.old.archive }
         ensures members { self.new.members.now ≡ self.old.members.now }
@@ -157,6 +145,7 @@ fn narrow_to<S: Source>(
     extent: FileRange,
 ) -> Result<(), LinkFault>
     ensures whole { src.new.seen.whole ≡ src.old.seen.whole }
+    ensures most { src.new.most ≡ src.old.most }
     ensures narrows { (file : List ℕ) → file_of_range src.old.seen ≡ Some file →
         OnOk result (src.new.seen.file ≡ Some (slice file extent.at extent.size)) }
     ensures fails { (file : List ℕ) → file_of_range src.old.seen ≡ Some file →
@@ -178,7 +167,7 @@ impl<S: Source> ArchiveObjects for MembersOfArchive<'_, S> {
         (extent_of_names s.archive.names) };
 
     ghost kept = { λ s. s.src.ghost_name ∷ s.room.ghost_name ∷ s.room.now.headers
-        ∷ bytes_known (file_of_range s.src.now.seen) };
+        ∷ number_of_limit s.src.now.most ∷ bytes_known (file_of_range s.src.now.seen) };
 
     ghost refusal = { λ s. refusal_in (file_of_range s.src.now.seen) s.room.now.headers };
 
@@ -226,6 +215,7 @@ fn defines<S: Source>(
     keys: &KeyTable<'_>,
 ) -> Result<bool, LinkFault>
     ensures keeps { KeepsSource src.old.seen src.new.seen }
+    ensures most { src.new.most ≡ src.old.most }
     ensures headers { room.new.headers ≡ room.old.headers }
     ensures names { room.new.names ≡ room.old.names }
     ensures finds { (file : List ℕ) → src.old.seen.file ≡ Some file →
@@ -272,6 +262,7 @@ fn find_definition<S: Source>(
     keys: &KeyTable<'_>,
 ) -> Result<bool, LinkFault>
     ensures keeps { KeepsSource src.old.seen src.new.seen }
+    ensures most { src.new.most ≡ src.old.most }
     ensures headers { room.new.headers ≡ room.old.headers }
     ensures names { room.new.names ≡ room.old.names }
     ensures finds { (file : List ℕ) → src.old.seen.file ≡ Some file →

@@ -1,7 +1,9 @@
 //! The shared libraries of a link, and which of them are needed.
-ghost use Rattle.std.specs.Prelude.{◌≡◌, [], length, Ok};
+ghost use Rattle.std.specs.Prelude.{◌≡◌, [], Ok};
+ghost use Rattle.elf_resolve.specs.ReadBudgets.{KeepsToBudget};
 
 use crate::asked_libraries::{open_library, reopen_library};
+use crate::budgeted_files::BudgetedFiles;
 use crate::libraries::LinkLibrary;
 use crate::link_faults::LinkFault;
 use crate::link_files::InputFiles;
@@ -43,7 +45,9 @@ impl Resolver<'_> {
         &mut self,
         src: &mut Counted<S>,
         library: NewLibrary<'_>,
-    ) -> Result<(), LinkFault> {
+    ) -> Result<(), LinkFault>
+        ensures most { src.new.most ≡ src.old.most }
+    {
         let keys = &mut self.link.keys;
         let end = open_library(src, &mut self.room, keys, &mut self.libraries, library)?;
         self.end_library(library.row, library.input, end);
@@ -72,13 +76,15 @@ impl Resolver<'_> {
     ///
     /// # Errors
     /// It cannot be opened; the first fault of the library; there is no room for a key.
+    #[tactic(auto, using(crate::proofs::ReadBudgetLaws::spends_none))]
     pub(crate) fn ask_again<F: InputFiles>(
         &mut self,
-        files: &mut F,
+        files: &mut BudgetedFiles<F>,
         library: usize,
     ) -> Result<(), LinkFault>
-        ensures file { F.file files.new ≡ F.file files.old }
-        ensures text { F.text files.new ≡ F.text files.old }
+        ensures file { F.file files.new.files ≡ F.file files.old.files }
+        ensures text { F.text files.new.files ≡ F.text files.old.files }
+        ensures spends { KeepsToBudget files.old.budget files.new.budget }
     {
         let Some(known) = self.libraries.get(library) else {
             return Ok(());
@@ -99,14 +105,15 @@ impl Resolver<'_> {
     /// It cannot be opened; the first fault of the library; there is no room for a key.
     fn read_again<F: InputFiles>(
         &mut self,
-        files: &mut F,
+        files: &mut BudgetedFiles<F>,
         library: usize,
         known: LinkLibrary,
     ) -> Result<LibraryEnd, LinkFault>
-        ensures file { F.file files.new ≡ F.file files.old }
-        ensures text { F.text files.new ≡ F.text files.old }
+        ensures file { F.file files.new.files ≡ F.file files.old.files }
+        ensures text { F.text files.new.files ≡ F.text files.old.files }
+        ensures spends { KeepsToBudget files.old.budget files.new.budget }
     {
-        let mut src = self.open(files, known.input)?;
+        let mut src = files.open(known.input)?;
         let keys = &mut self.link.keys;
         let libraries = &mut self.libraries;
         let end = reopen_library(
@@ -116,7 +123,7 @@ impl Resolver<'_> {
             libraries,
             (library, known.row),
         );
-        self.close(&src);
+        files.close(&src);
         end
     }
 
@@ -124,10 +131,15 @@ impl Resolver<'_> {
     ///
     /// # Errors
     /// One cannot be opened; the first fault of one; there is no room.
-    pub(crate) fn offer_libraries<F: InputFiles>(&mut self, files: &mut F) -> Result<(), LinkFault>
+    #[tactic(auto, using(crate::proofs::ReadBudgetLaws::spends_none))]
+    pub(crate) fn offer_libraries<F: InputFiles>(
+        &mut self,
+        files: &mut BudgetedFiles<F>,
+    ) -> Result<(), LinkFault>
         ensures same { self.old.libraries.libraries.items ≡ [] → self.new ≡ self.old }
         ensures done { self.old.libraries.libraries.items ≡ [] → result ≡ Ok tt }
-        ensures text { F.text files.new ≡ F.text files.old }
+        ensures text { F.text files.new.files ≡ F.text files.old.files }
+        ensures spends { KeepsToBudget files.old.budget files.new.budget }
     {
         let count = self.libraries.len();
         if count == 0 {
@@ -143,12 +155,14 @@ impl Resolver<'_> {
     ///
     /// # Errors
     /// It cannot be opened; the first fault of the library; there is no room.
+    #[tactic(auto, using(crate::proofs::ReadBudgetLaws::spends_none))]
     fn offer_library<F: InputFiles>(
         &mut self,
-        files: &mut F,
+        files: &mut BudgetedFiles<F>,
         library: usize,
     ) -> Result<(), LinkFault>
-        ensures text { F.text files.new ≡ F.text files.old }
+        ensures text { F.text files.new.files ≡ F.text files.old.files }
+        ensures spends { KeepsToBudget files.old.budget files.new.budget }
     {
         let Some(known) = self.libraries.get(library) else {
             return Ok(());
@@ -157,10 +171,10 @@ impl Resolver<'_> {
             return Ok(());
         }
         self.row = Some(known.row);
-        let mut src = self.open(files, known.input)?;
+        let mut src = files.open(known.input)?;
         let keys = &self.link.keys;
         let offered = offer_keys(&mut src, &mut self.room, keys, &mut self.spare, known.row);
-        self.close(&src);
+        files.close(&src);
         offered
     }
 

@@ -74,6 +74,7 @@ pub(crate) fn take_object<S: Source>(
     row: u32,
 ) -> Result<(), LinkFault>
     ensures keeps { KeepsSource src.old.seen src.new.seen }
+    ensures most { src.new.most ≡ src.old.most }
     ensures headers { room.new.headers ≡ room.old.headers }
     ensures names { room.new.names ≡ room.old.names }
     ensures takes { (file : List ℕ) → src.old.seen.file ≡ Some file →
@@ -103,6 +104,7 @@ fn take_sections<S: Source>(
     row: u32,
 ) -> Result<(), LinkFault>
     ensures keeps { KeepsSource src.old.seen src.new.seen }
+    ensures most { src.new.most ≡ src.old.most }
     ensures takes { (file : List ℕ) → src.old.seen.file ≡ Some file →
         HoldsSectionHeaders file view.now.loaded view.now.store.now →
         TakesLoaded file row keys.old keys.new result }
@@ -128,6 +130,7 @@ fn take_sections<S: Source>(
 /// Those of the header, `FileType` at 16 and `Machine` at 18.
 pub(crate) fn linked_header<S: Source>(src: &mut Counted<S>, wanted: u16) -> Result<Ehdr, LinkFault>
     ensures keeps { KeepsSource src.old.seen src.new.seen }
+    ensures most { src.new.most ≡ src.old.most }
     ensures reads { (file : List ℕ) → src.old.seen.file ≡ Some file →
         ReadsLinkHeader file wanted result }
 {
@@ -162,6 +165,7 @@ pub(crate) fn read_tables<S: Source>(
     strings: &mut StringBuffer,
 ) -> Result<ObjectTables, LinkFault>
     ensures keeps { KeepsSource src.old.seen src.new.seen }
+    ensures most { src.new.most ≡ src.old.most }
     ensures reads { (file : List ℕ) → src.old.seen.file ≡ Some file →
         HoldsSectionHeaders file view.now.loaded view.now.store.now →
         ReadsTables file strings.new.bytes result }
@@ -183,6 +187,7 @@ pub(crate) fn read_first_symbols<S: Source>(
     strings: &mut StringBuffer,
 ) -> Result<Option<SymbolRows>, LinkFault>
     ensures keeps { KeepsSource src.old.seen src.new.seen }
+    ensures most { src.new.most ≡ src.old.most }
     ensures stays { KeptTexts strings.old strings.new }
     ensures reads { (file : List ℕ) → src.old.seen.file ≡ Some file →
         HoldsSectionHeaders file view.now.loaded view.now.store.now →
@@ -205,6 +210,7 @@ fn read_section_names<S: Source>(
     strings: &mut StringBuffer,
 ) -> Result<Option<HeldText>, LinkFault>
     ensures keeps { KeepsSource src.old.seen src.new.seen }
+    ensures most { src.new.most ≡ src.old.most }
     ensures stays { KeptTexts strings.old strings.new }
     ensures reads { (file : List ℕ) → src.old.seen.file ≡ Some file →
         HoldsSectionHeaders file view.now.loaded view.now.store.now →
@@ -228,6 +234,7 @@ pub(crate) fn read_names<S: Source>(
     strings: &mut StringBuffer,
 ) -> Result<HeldText, LinkFault>
     ensures keeps { KeepsSource src.old.seen src.new.seen }
+    ensures most { src.new.most ≡ src.old.most }
     ensures stays { KeptTexts strings.old strings.new }
     ensures reads { (file : List ℕ) → src.old.seen.file ≡ Some file →
         ReadsText file names.at names.size strings.old strings.new result }
@@ -246,6 +253,7 @@ pub(crate) fn read_rows<S: Source>(
     strings: &mut StringBuffer,
 ) -> Result<HeldText, LinkFault>
     ensures keeps { KeepsSource src.old.seen src.new.seen }
+    ensures most { src.new.most ≡ src.old.most }
     ensures stays { KeptTexts strings.old strings.new }
     ensures reads { (file : List ℕ) → src.old.seen.file ≡ Some file →
         ReadsText file table.at (table.count * table.entry) strings.old strings.new result }
@@ -268,6 +276,7 @@ fn read_symbols<S: Source>(
 ) -> Result<SymbolRows, LinkFault>
     requires { section < view.now.store.now.loaded }
     ensures keeps { KeepsSource src.old.seen src.new.seen }
+    ensures most { src.new.most ≡ src.old.most }
     ensures stays { KeptTexts strings.old strings.new }
     ensures reads { (file : List ℕ) → src.old.seen.file ≡ Some file →
         HoldsSectionHeaders file view.now.loaded view.now.store.now →

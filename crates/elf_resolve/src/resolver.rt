@@ -1,30 +1,28 @@
 //! The inputs of a link in their order.
-ghost use Rattle.std.specs.Prelude.{◌≡◌, ◌≢◌, ◌+◌, ◌<◌, ◌∷◌, [], false, true, ℕ, List, get_or, length, map, Err, IfErr, IfOk, OnOk, None, Ok, Some};
-ghost use Rattle.std.specs.List.{slice_get};
+ghost use Rattle.std.specs.Prelude.{◌≡◌, ◌<◌, ◌∷◌, [], false, true, ℕ, List, get_or, map, Err, IfErr, IfOk, OnOk, None, Ok, Some};
 ghost use Rattle.std.proofs.Math.ListN.{set};
-ghost use Rattle.elf_model.specs.LinkArchives.{LinkFiles, files_as_inputs, names_of_files};
-ghost use Rattle.elf_model.specs.LinkInputs.{LinkInputs, Linking, file_row, input_taken, linked, with_arguments};
+ghost use Rattle.elf_model.specs.LinkArchives.{files_as_inputs, names_of_files};
+ghost use Rattle.elf_model.specs.LinkInputs.{LinkInputs, file_row, linked};
 ghost use Rattle.elf_model.specs.LinkLines.{FileNames};
 ghost use Rattle.elf_model.specs.declared.formats.Format.{Format};
 ghost use Rattle.elf_resolve.specs.LinkerNames.{output_of};
 ghost use Rattle.elf_resolve.specs.ProblemLines.{lines_of_problems};
 ghost use Rattle.elf_resolve.specs.ShownLinks.{shown_link};
 ghost use Rattle.elf_resolve.specs.StaticLinks.{AreRowsNamed};
-ghost use Rattle.elf_source.specs.Prelude.{IsWholeRange};
 ghost use Rattle.elf_resolve.specs.EndsAtRefusal.{EndsLink, HasBadScript, LeavesRows};
 ghost use Rattle.elf_resolve.specs.Taken.{IsLinkFault};
-ghost use Rattle.elf_resolve.specs.LinkMembers.{file_of_range};
-ghost use Rattle.elf_resolve.specs.LinkPlaces.{IsLinkAt, input_made, is_new_input};
 ghost use Rattle.elf_resolve.specs.ListRooms.{HasListRoom};
 ghost use Rattle.elf_resolve.specs.MarkedRows.{AreFaultsMarked};
 ghost use Rattle.elf_resolve.specs.OwnLinks.{IsOwnLink};
 ghost use Rattle.elf_resolve.specs.Plans.{IsStaticPlan, planned_files, plan_steps};
 ghost use Rattle.elf_resolve.specs.Resolved.{linking_of};
 ghost use Rattle.elf_resolve.specs.NamedRows.{HasNames};
-ghost use Rattle.elf_resolve.specs.ResolvedInputs.{AddedRowOf, AskedNames, IsAtStep, IsFresh, IsLink, IsPlanned, OpenedGroup, TookAll, TookInput};
+ghost use Rattle.elf_resolve.specs.ResolvedInputs.{AddedRowOf, AskedNames, IsFresh, TookAll};
 ghost use Rattle.elf_resolve.specs.StaticLinks.{AreKeysListed};
+ghost use Rattle.elf_resolve.specs.ReadBudgets.{KeepsToBudget};
 
 use crate::archives::ArchiveTables;
+use crate::budgeted_files::BudgetedFiles;
 use crate::key_chains::KeyChains;
 use crate::libraries::LibraryList;
 use crate::link_faults::{LinkFault, full, refused};
@@ -96,7 +94,6 @@ pub struct Resolver<'a> {
     pub(crate) kinds: Vec<Option<LinkRowKind>>,
     pub(crate) states: Vec<InputState>,
     pub(crate) groups: Vec<OpenGroup>,
-    pub(crate) left: Option<u64>,
     pub(crate) row: Option<u32>,
 }
 
@@ -144,7 +141,6 @@ impl<'a> Resolver<'a> {
             kinds,
             states,
             groups,
-            left: caps.budget,
             row: None,
         })
     }
@@ -170,48 +166,46 @@ impl<'a> Resolver<'a> {
     /// A file cannot be opened or read.
     pub fn resolve<F: InputFiles>(
         &mut self,
-        files: &mut F,
+        files: &mut BudgetedFiles<F>,
         asked: &[&str],
         plan: &LinkPlan,
     ) -> Result<(), LinkFault>
-        ensures links { (inputs : LinkInputs) → IsFresh self.old →
-            IsStaticPlan (F.file files.old) plan.now → plan_steps inputs ≡ plan.now.steps.items →
-            self.new.end ≡ None → OnOk result (linking_of self.new ≡ linked
-            (files_as_inputs (planned_files (F.file files.old) plan.now
-            self.old.room.headers)) (map (λ name. name.now) asked.now) inputs) }
-        ensures listed { (inputs : LinkInputs) → IsFresh self.old →
-            IsStaticPlan (F.file files.old) plan.now → plan_steps inputs ≡ plan.now.steps.items →
-            self.new.end ≡ None → OnOk result (AreKeysListed self.new) }
-        ensures marked { (inputs : LinkInputs) → IsFresh self.old →
-            IsStaticPlan (F.file files.old) plan.now → plan_steps inputs ≡ plan.now.steps.items →
-            self.new.end ≡ None → OnOk result (AreFaultsMarked self.new) }
+        ensures links { (inputs : LinkInputs) → IsFresh self.old → IsStaticPlan (F.file
+            files.old.files) plan.now → plan_steps inputs ≡ plan.now.steps.items → self.new.end ≡
+            None → OnOk result (linking_of self.new ≡ linked (files_as_inputs (planned_files (F.file
+            files.old.files) plan.now self.old.room.headers)) (map (λ name. name.now) asked.now)
+            inputs) }
+        ensures listed { (inputs : LinkInputs) → IsFresh self.old → IsStaticPlan (F.file
+            files.old.files) plan.now → plan_steps inputs ≡ plan.now.steps.items → self.new.end ≡
+            None → OnOk result (AreKeysListed self.new) }
+        ensures marked { (inputs : LinkInputs) → IsFresh self.old → IsStaticPlan (F.file
+            files.old.files) plan.now → plan_steps inputs ≡ plan.now.steps.items → self.new.end ≡
+            None → OnOk result (AreFaultsMarked self.new) }
         ensures problems { (inputs : LinkInputs) (format : Format) (names : FileNames) →
-            IsFresh self.old → IsStaticPlan (F.file files.old) plan.now →
+            IsFresh self.old → IsStaticPlan (F.file files.old.files) plan.now →
             plan_steps inputs ≡ plan.now.steps.items → self.new.end ≡ None →
             OnOk result (shown_link true format names self.new
             ≡ lines_of_problems format names (output_of self.new.output) (linking_of self.new)) }
         ensures output { self.new.output ≡ plan.now.output }
-        ensures text { F.text files.new ≡ F.text files.old }
-        ensures names { (inputs : LinkInputs) → IsFresh self.old →
-            IsStaticPlan (F.file files.old) plan.now → plan_steps inputs ≡ plan.now.steps.items →
-            self.new.end ≡ None → OnOk result (HasNames
-            (planned_files (F.file files.old) plan.now self.old.room.headers) self.new) }
-        ensures named { (inputs : LinkInputs) (path : ℕ → List ℕ) → IsFresh self.old →
-            IsStaticPlan (F.file files.old) plan.now → plan_steps inputs ≡ plan.now.steps.items →
-            ((input : ℕ) → F.text files.old input ≡ Some (path input)) →
-            self.new.end ≡ None → OnOk result (AreRowsNamed (F.text files.new)
-            (names_of_files (planned_files (F.file files.old) plan.now self.old.room.headers)
-            path) self.new) }
-        ensures kinds { (inputs : LinkInputs) → IsFresh self.old →
-            IsStaticPlan (F.file files.old) plan.now → plan_steps inputs ≡ plan.now.steps.items →
-            self.new.end ≡ None →
-            OnOk result ((index : ℕ) → get_or self.new.kinds.items index None ≡ None) }
-        ensures refused { (inputs : LinkInputs) (end : LinkEnd) → IsFresh self.old →
-            IsStaticPlan (F.file files.old) plan.now → plan_steps inputs ≡ plan.now.steps.items →
-            let all = planned_files (F.file files.old) plan.now self.old.room.headers in
-            self.new.end ≡ Some end → OnOk result (EndsLink all plan.now
-            (linked (files_as_inputs all) (map (λ name. name.now) asked.now) inputs).rows
-            self.new.link.rows.rows end) }
+        ensures text { F.text files.new.files ≡ F.text files.old.files }
+        ensures spends { KeepsToBudget files.old.budget files.new.budget }
+        ensures names { (inputs : LinkInputs) → IsFresh self.old → IsStaticPlan (F.file
+            files.old.files) plan.now → plan_steps inputs ≡ plan.now.steps.items → self.new.end ≡
+            None → OnOk result (HasNames (planned_files (F.file files.old.files) plan.now
+            self.old.room.headers) self.new) }
+        ensures named { (inputs : LinkInputs) (path : ℕ → List ℕ) → IsFresh self.old → IsStaticPlan
+            (F.file files.old.files) plan.now → plan_steps inputs ≡ plan.now.steps.items → ((input :
+            ℕ) → F.text files.old.files input ≡ Some (path input)) → self.new.end ≡ None → OnOk
+            result (AreRowsNamed (F.text files.new.files) (names_of_files (planned_files (F.file
+            files.old.files) plan.now self.old.room.headers) path) self.new) }
+        ensures kinds { (inputs : LinkInputs) → IsFresh self.old → IsStaticPlan (F.file
+            files.old.files) plan.now → plan_steps inputs ≡ plan.now.steps.items → self.new.end ≡
+            None → OnOk result ((index : ℕ) → get_or self.new.kinds.items index None ≡ None) }
+        ensures refused { (inputs : LinkInputs) (end : LinkEnd) → IsFresh self.old → IsStaticPlan
+            (F.file files.old.files) plan.now → plan_steps inputs ≡ plan.now.steps.items → let all =
+            planned_files (F.file files.old.files) plan.now self.old.room.headers in self.new.end ≡
+            Some end → OnOk result (EndsLink all plan.now (linked (files_as_inputs all) (map (λ
+            name. name.now) asked.now) inputs).rows self.new.link.rows.rows end) }
     {
         let taken = self.take_all(files, asked, plan);
         self.list_by_keys(plan.output);
@@ -270,28 +264,28 @@ impl<'a> Resolver<'a> {
     /// The first fault.
     fn take_all<F: InputFiles>(
         &mut self,
-        files: &mut F,
+        files: &mut BudgetedFiles<F>,
         asked: &[&str],
         plan: &LinkPlan,
     ) -> Result<(), LinkFault>
-        ensures links { (inputs : LinkInputs) → IsFresh self.old →
-            IsStaticPlan (F.file files.old) plan.now → plan_steps inputs ≡ plan.now.steps.items →
-            OnOk result (linking_of self.new ≡ linked
-            (files_as_inputs (planned_files (F.file files.old) plan.now
-            self.old.room.headers)) (map (λ name. name.now) asked.now) inputs) }
-        ensures room { (inputs : LinkInputs) → IsFresh self.old →
-            IsStaticPlan (F.file files.old) plan.now → plan_steps inputs ≡ plan.now.steps.items →
-            OnOk result (HasListRoom self.new) }
-        ensures leaves { (inputs : LinkInputs) → IsFresh self.old →
-            IsStaticPlan (F.file files.old) plan.now → plan_steps inputs ≡ plan.now.steps.items →
-            let all = planned_files (F.file files.old) plan.now self.old.room.headers in
-            LeavesRows all (HasBadScript plan.now) self.new
-            (linked (files_as_inputs all) (map (λ name. name.now) asked.now) inputs).rows result }
-        ensures text { F.text files.new ≡ F.text files.old }
-        ensures names { (inputs : LinkInputs) → IsFresh self.old →
-            IsStaticPlan (F.file files.old) plan.now → plan_steps inputs ≡ plan.now.steps.items →
-            OnOk result (HasNames
-            (planned_files (F.file files.old) plan.now self.old.room.headers) self.new) }
+        ensures links { (inputs : LinkInputs) → IsFresh self.old → IsStaticPlan (F.file
+            files.old.files) plan.now → plan_steps inputs ≡ plan.now.steps.items → OnOk result
+            (linking_of self.new ≡ linked (files_as_inputs (planned_files (F.file files.old.files)
+            plan.now self.old.room.headers)) (map (λ name. name.now) asked.now) inputs) }
+        ensures room { (inputs : LinkInputs) → IsFresh self.old → IsStaticPlan (F.file
+            files.old.files) plan.now → plan_steps inputs ≡ plan.now.steps.items → OnOk result
+            (HasListRoom self.new) }
+        ensures leaves { (inputs : LinkInputs) → IsFresh self.old → IsStaticPlan (F.file
+            files.old.files) plan.now → plan_steps inputs ≡ plan.now.steps.items → let all =
+            planned_files (F.file files.old.files) plan.now self.old.room.headers in LeavesRows all
+            (HasBadScript plan.now) self.new (linked (files_as_inputs all) (map (λ name. name.now)
+            asked.now) inputs).rows result }
+        ensures text { F.text files.new.files ≡ F.text files.old.files }
+        ensures spends { KeepsToBudget files.old.budget files.new.budget }
+        ensures names { (inputs : LinkInputs) → IsFresh self.old → IsStaticPlan (F.file
+            files.old.files) plan.now → plan_steps inputs ≡ plan.now.steps.items → OnOk result
+            (HasNames (planned_files (F.file files.old.files) plan.now self.old.room.headers)
+            self.new) }
     {
         self.take_inputs(files, asked, plan)?;
         self.offer_libraries(files)
@@ -301,27 +295,29 @@ impl<'a> Resolver<'a> {
     ///
     /// # Errors
     /// The first fault.
+    #[tactic(auto, using(crate::proofs::ReadBudgetLaws::spends_none))]
     fn take_inputs<F: InputFiles>(
         &mut self,
-        files: &mut F,
+        files: &mut BudgetedFiles<F>,
         asked: &[&str],
         plan: &LinkPlan,
     ) -> Result<(), LinkFault>
-        ensures takes { (inputs : LinkInputs) → IsFresh self.old →
-            IsStaticPlan (F.file files.old) plan.now → plan_steps inputs ≡ plan.now.steps.items →
-            let all = planned_files (F.file files.old) plan.now self.old.room.headers in
-            OnOk result (TookAll all self.new
-            (linked (files_as_inputs all) (map (λ name. name.now) asked.now) inputs)) }
-        ensures leaves { (inputs : LinkInputs) → IsFresh self.old →
-            IsStaticPlan (F.file files.old) plan.now → plan_steps inputs ≡ plan.now.steps.items →
-            let all = planned_files (F.file files.old) plan.now self.old.room.headers in
-            LeavesRows all (HasBadScript plan.now) self.new
-            (linked (files_as_inputs all) (map (λ name. name.now) asked.now) inputs).rows result }
-        ensures text { F.text files.new ≡ F.text files.old }
-        ensures names { (inputs : LinkInputs) → IsFresh self.old →
-            IsStaticPlan (F.file files.old) plan.now → plan_steps inputs ≡ plan.now.steps.items →
-            OnOk result (HasNames
-            (planned_files (F.file files.old) plan.now self.old.room.headers) self.new) }
+        ensures takes { (inputs : LinkInputs) → IsFresh self.old → IsStaticPlan (F.file
+            files.old.files) plan.now → plan_steps inputs ≡ plan.now.steps.items → let all =
+            planned_files (F.file files.old.files) plan.now self.old.room.headers in OnOk result
+            (TookAll all self.new (linked (files_as_inputs all) (map (λ name. name.now) asked.now)
+            inputs)) }
+        ensures leaves { (inputs : LinkInputs) → IsFresh self.old → IsStaticPlan (F.file
+            files.old.files) plan.now → plan_steps inputs ≡ plan.now.steps.items → let all =
+            planned_files (F.file files.old.files) plan.now self.old.room.headers in LeavesRows all
+            (HasBadScript plan.now) self.new (linked (files_as_inputs all) (map (λ name. name.now)
+            asked.now) inputs).rows result }
+        ensures text { F.text files.new.files ≡ F.text files.old.files }
+        ensures spends { KeepsToBudget files.old.budget files.new.budget }
+        ensures names { (inputs : LinkInputs) → IsFresh self.old → IsStaticPlan (F.file
+            files.old.files) plan.now → plan_steps inputs ≡ plan.now.steps.items → OnOk result
+            (HasNames (planned_files (F.file files.old.files) plan.now self.old.room.headers)
+            self.new) }
     {
         self.ask_all(asked)?;
         self.take_steps(files, plan)

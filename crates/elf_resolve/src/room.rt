@@ -29,8 +29,6 @@ pub struct LinkCaps {
     pub index: u32,
     /// The most rows.
     pub rows: u32,
-    /// How many bytes of all files may be read.
-    pub budget: Option<u64>,
     pub ghost some: { 1 ≤ headers },
     pub ghost most: { headers ≤ 65279 },
 }

@@ -76,6 +76,7 @@ pub(crate) fn drop_groups<S: Source>(
     keys: &mut KeyTable<'_>,
 ) -> Result<(), LinkFault>
     ensures keeps { KeepsSource src.old.seen src.new.seen }
+    ensures most { src.new.most ≡ src.old.most }
     ensures stays { KeptTexts strings.old strings.new }
     ensures drops { (file : List ℕ) → src.old.seen.file ≡ Some file →
         HoldsSectionHeaders file view.now.loaded view.now.store.now →
@@ -131,6 +132,7 @@ fn take_section<S: Source>(
 ) -> Result<Dropped, LinkFault>
     requires { section < view.now.store.now.loaded }
     ensures keeps { KeepsSource src.old.seen src.new.seen }
+    ensures most { src.new.most ≡ src.old.most }
     ensures stays { KeptTexts strings.old strings.new }
     ensures takes { (file : List ℕ) → src.old.seen.file ≡ Some file →
         HoldsSectionHeaders file view.now.loaded view.now.store.now →
@@ -157,6 +159,7 @@ fn take_group<S: Source>(
 ) -> Result<Dropped, LinkFault>
     requires { section < view.now.store.now.loaded }
     ensures keeps { KeepsSource src.old.seen src.new.seen }
+    ensures most { src.new.most ≡ src.old.most }
     ensures stays { KeptTexts strings.old strings.new }
     ensures takes { (file : List ℕ) → src.old.seen.file ≡ Some file →
         HoldsSectionHeaders file view.now.loaded view.now.store.now →
@@ -273,6 +276,7 @@ fn signature<S: Source>(
     strings: &mut StringBuffer,
 ) -> Result<HeldText, LinkFault>
     ensures keeps { KeepsSource src.old.seen src.new.seen }
+    ensures most { src.new.most ≡ src.old.most }
     ensures stays { KeptTexts strings.old strings.new }
     ensures signs { (file : List ℕ) (at : ℕ) → src.old.seen.file ≡ Some file →
         HoldsSectionHeaders file view.now.loaded view.now.store.now →
@@ -323,6 +327,7 @@ fn linked_symbols<S: Source>(
     strings: &mut StringBuffer,
 ) -> Result<SymbolRows, LinkFault>
     ensures keeps { KeepsSource src.old.seen src.new.seen }
+    ensures most { src.new.most ≡ src.old.most }
     ensures stays { KeptTexts strings.old strings.new }
     ensures reads { (file : List ℕ) (at : ℕ) → src.old.seen.file ≡ Some file →
         HoldsTables file strings.old.bytes tables → FoundGroup file at group.now →

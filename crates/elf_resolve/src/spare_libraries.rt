@@ -1,4 +1,6 @@
 //! The keys that a shared library defines which is not needed.
+ghost use Rattle.std.specs.Prelude.{◌≡◌};
+
 use crate::asked_libraries::read_library_tables;
 use crate::library::LibraryTables;
 use crate::library_symbols::{LibrarySymbol, library_symbol};
@@ -23,7 +25,9 @@ pub(crate) fn offer_keys<S: Source>(
     keys: &KeyTable<'_>,
     spare: &mut SpareKeys,
     row: u32,
-) -> Result<(), LinkFault> {
+) -> Result<(), LinkFault>
+    ensures most { src.new.most ≡ src.old.most }
+{
     let head = linked_header(src, ET_DYN)?;
     let slots = slots_for(room.headers, &head);
     reach_slots(&mut room.header_bytes, slots)?;

@@ -84,6 +84,7 @@ impl StringBuffer {
         place: u64,
     ) -> Result<HeldText, LinkFault>
         ensures keeps { KeepsSource src.old.seen src.new.seen }
+        ensures most { src.new.most ≡ src.old.most }
         ensures stays { KeptTexts self.old self.new }
         ensures reads { (file : List ℕ) → src.old.seen.file ≡ Some file →
             ReadsText file at size self.old self.new result }
@@ -233,6 +234,7 @@ pub(crate) fn read_all<S: Source>(
     out: &mut [u8],
 ) -> Result<(), LinkFault>
     ensures keeps { KeepsSource src.old.seen src.new.seen }
+    ensures most { src.new.most ≡ src.old.most }
     ensures reads { (file : List ℕ) → src.old.seen.file ≡ Some file →
         ReadsAll file at (length out.old) out.new result }
     ensures empty { length out.old ≡ 0 → IsOk result }
@@ -254,6 +256,7 @@ pub(crate) fn read_all<S: Source>(
 fn read_piece<S: Source>(src: &mut Counted<S>, at: u64, out: &mut [u8]) -> Result<(), LinkFault>
     requires { length out.old ≤ 4096 }
     ensures keeps { KeepsSource src.old.seen src.new.seen }
+    ensures most { src.new.most ≡ src.old.most }
     ensures fits { src.old.seen.size < 2 ^ 64 }
     ensures reads { (file : List ℕ) → src.old.seen.file ≡ Some file →
         ReadsAll file at (length out.old) out.new result }

@@ -48,6 +48,7 @@ impl Resolver<'_> {
             files.file archive.input ≡ Some file → file_of_range src.old.seen ≡ Some file →
             HasMembers file self.old.tables.members.items archive →
             OnOk result (KeepsRowNames files self.old self.new) }
+        ensures most { src.new.most ≡ src.old.most }
     {
         let count = range_of(&self.tables.members, archive.members).len();
         let Ok(count) = u32::try_from(count) else {
@@ -70,6 +71,7 @@ impl Resolver<'_> {
         member: u32,
     ) -> Result<(), LinkFault>
         ensures below { src.new.seen.whole ≡ src.old.seen.whole }
+        ensures most { src.new.most ≡ src.old.most }
         ensures takes { (file : List ℕ) (m : LinkMember) → file_of_range src.old.seen ≡ Some file →
             HasMembers file self.old.tables.members.items archive →
             slice_get (link_members file).members member ≡ Some m →
@@ -108,6 +110,7 @@ impl Resolver<'_> {
         member: u32,
     ) -> Result<(), LinkFault>
         ensures below { src.new.seen.whole ≡ src.old.seen.whole }
+        ensures most { src.new.most ≡ src.old.most }
         ensures takes { (file : List ℕ) (m : LinkMember) → file_of_range src.old.seen ≡ Some file →
             HasMembers file self.old.tables.members.items archive →
             slice_get (link_members file).members member ≡ Some m →

@@ -5,6 +5,7 @@ ghost use Rattle.elf_model.specs.LinkArchives.{files_as_inputs, names_of_files};
 ghost use Rattle.elf_model.specs.LinkInputs.{LinkInputs, linked};
 ghost use Rattle.elf_model.specs.LinkLines.{FileNames};
 ghost use Rattle.elf_resolve.specs.Plans.{IsStaticPlan, planned_files, plan_steps};
+ghost use Rattle.elf_resolve.specs.ReadBudgets.{KeepsToBudget};
 ghost use Rattle.elf_resolve.specs.ResolvedInputs.{IsFresh};
 ghost use Rattle.elf_resolve.specs.StaticLinks.{AreKeysListed, AreRowsNamed};
 ghost use Rattle.elfsee.specs.Links.{AnswersLink, ResolvesLink, WritesLink, failure_of, lines_end};
@@ -18,7 +19,9 @@ use elf_cli::{
 };
 use elf_format::{LinePrefix, line_of, show_named};
 use elf_model::Format;
-use elf_resolve::{InputFiles, LinkCaps, LinkFault, LinkLines, LinkPlan, Resolver, show_link};
+use elf_resolve::{
+    BudgetedFiles, InputFiles, LinkCaps, LinkFault, LinkLines, LinkPlan, Resolver, show_link,
+};
 use elf_source::{Out, OutFault, Sink, WriteSink};
 use std::alloc::Global;
 use std::hash::RandomState;
@@ -112,7 +115,6 @@ fn caps_of(asked: &CommandArgs<'_>) -> LinkCaps {
         key_bytes: limit_of(asked.key_bytes, MOST_BYTES),
         index: limit_of(asked.index, MOST_ENTRIES),
         rows: limit_of(asked.rows, MOST_ROWS),
-        budget: limits.budget,
     }
 }
 
@@ -144,8 +146,8 @@ where
     let Ok(hasher) = RandomState::new(rt) else {
         return Err(LinkFailure::Read);
     };
-    let mut files = FoundInputs::new(rt, alloc, caps.rows);
-    let Ok(plan) = files.find_all(alloc, words) else {
+    let mut found = FoundInputs::new(rt, alloc, caps.rows);
+    let Ok(plan) = found.find_all(alloc, words) else {
         return Err(LinkFailure::Memory);
     };
     let Ok(memory) = Bump::try_with_capacity(alloc, caps.key_bytes as usize) else {
@@ -155,6 +157,7 @@ where
     let Ok(mut link) = Resolver::new(alloc, hasher, &caps, steps, &memory) else {
         return Err(LinkFailure::Memory);
     };
+    let mut files = BudgetedFiles::new(found, asked.caps.limits.budget);
     let style = lines_of(asked);
     let (ended, _output) = write_link(&mut link, &mut files, &words.asked, &plan, style, output);
     ended
@@ -175,23 +178,24 @@ fn lines_of(asked: &CommandArgs<'_>) -> LinkLines {
 /// Out of memory, a file cannot be opened or read, or the output cannot be written.
 fn write_link<F: InputFiles, W: Write + Drop>(
     link: &mut Resolver<'_>,
-    files: &mut F,
+    files: &mut BudgetedFiles<F>,
     asked: &[&str],
     plan: &LinkPlan,
     style: LinkLines,
     output: BufWriter<W>,
 ) -> (Result<u8, LinkFailure>, WriteSink<W>)
-    ensures { (inputs : LinkInputs) (path : ℕ → List ℕ) → IsFresh link.old →
-        IsStaticPlan (F.file files.old) plan.now → plan_steps inputs ≡ plan.now.steps.items →
-        ((input : ℕ) → F.text files.old input ≡ Some (path input)) → link.new.end ≡ None →
-        let all = planned_files (F.file files.old) plan.now link.old.room.headers in
+    ensures answers { (inputs : LinkInputs) (path : ℕ → List ℕ) → IsFresh link.old →
+        IsStaticPlan (F.file files.old.files) plan.now → plan_steps inputs ≡ plan.now.steps.items →
+        ((input : ℕ) → F.text files.old.files input ≡ Some (path input)) → link.new.end ≡ None →
+        let all = planned_files (F.file files.old.files) plan.now link.old.room.headers in
         AnswersLink (ResolvesLink W.contents style (names_of_files all path) plan.now.output
         (linked (files_as_inputs all) (map (λ name. name.now) asked.now) inputs)
         link.new output result.0 result.1)
         (W.contents (writer_inner output)) (W.contents result.1.writer) result.0 }
+    ensures spends { KeepsToBudget files.old.budget files.new.budget }
 {
     match link.resolve(files, asked, plan) {
-        Ok(()) => write_lines(link, &*files, style, output),
+        Ok(()) => write_lines(link, &files.files, style, output),
         Err(fault) => (Err(failure_of(fault)), write_rest(output, false)),
     }
 }

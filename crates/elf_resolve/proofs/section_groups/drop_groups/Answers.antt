@@ -10,6 +10,7 @@ loop-section-init g c = (
   record { same_size = refl; no_fewer = omega arith; same_file = refl; same_whole = refl },
   refl,
   λ file known viewed held marked. taken_first file c.args.keys.now c.args.marks.now marked,
+  refl,
 )
 
 pub loop-section-preserved : goal.loop-section-preserved
@@ -25,6 +26,7 @@ loop-section-preserved g c =
           taken_more file c.loop-section.section c.args.keys.now c.loop-section.keys c.take_section.new.keys c.loop-section.marks c.mark_dropped.new.marks here.groups here.sections below
           (c.loop-section.invariant.2 file known viewed held marked) here.are here.took
           (λ before marks. c.mark_dropped.ensures (e_shnum file) before here.sections here.held marks),
+      c.take_section.ensures.most ∙ c.loop-section.invariant.3,
     )
 
 pub returns-in_err-dropped-clause-drops : goal.returns-in_err-dropped-clause-drops

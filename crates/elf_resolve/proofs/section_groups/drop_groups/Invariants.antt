@@ -14,3 +14,4 @@ invariant-loop-section g l =
     × (l.strings ≡ l.initial.strings)
     × ((file : List ℕ) → l.initial.src.seen.file ≡ Some file → HoldsSectionHeaders file l.view.loaded l.view.store.now → HoldsTables file l.initial.strings.bytes l.tables
     → MarksDropped (e_shnum file) l.initial.marks [] → TakenSoFar file l.section l.initial.keys l.keys l.marks)
+    × (l.src.most ≡ l.initial.src.most)

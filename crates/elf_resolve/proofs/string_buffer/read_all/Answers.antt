@@ -20,6 +20,7 @@ loop-done-preserved g c =
     record {
       in_range = omega (arith, same, few);
       keeps = KeepsSource-then known.keeps c.read_piece.ensures.keeps;
+      most = c.read_piece.ensures.most ∙ known.most;
       reads = λ file held.
           let read = c.in_ok-read_piece.ensures.reads file (known.keeps.same_file ∙ held) in
           let size : length file ≡ c.args.src.now.seen.size = c.args.src.now.seen.sized file held in

@@ -7,6 +7,7 @@ abbrev pub invariant-loop-done : goal.invariant-loop-done
 invariant-loop-done g l = record {
   in_range : l.done ≤ length l.out;
   keeps : KeepsSource l.initial.src.seen l.src.seen;
+  most : l.src.most ≡ l.initial.src.most;
   reads : (file : List ℕ) → l.initial.src.seen.file ≡ Some file → (0 < l.done → l.at + l.done ≤ length file) × (take l.done l.out ≡ slice file l.at l.done);
 }
 

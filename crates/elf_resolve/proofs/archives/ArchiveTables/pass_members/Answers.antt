@@ -10,6 +10,7 @@ loop-at-init g c = record {
   archives = refl;
   entries = refl;
   limit = refl;
+  most = refl;
   passed = λ file held small. passes_begin file c.args.self.now.members.items;
 }
 
@@ -19,6 +20,7 @@ loop-at-preserved g c = record {
   archives = search rules;
   entries = search rules;
   limit = search rules;
+  most = c.read_header_at.ensures.most ∙ c.loop-at.invariant.most;
   passed = λ file held small.
       let now = c.loop-at.invariant.keeps.same_file ∙ held in
       rw c.padded_end-at.ensures

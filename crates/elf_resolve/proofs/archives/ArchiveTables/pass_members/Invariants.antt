@@ -11,6 +11,7 @@ invariant-loop-at g l = record {
   archives : l.self.archives ≡ l.initial.self.archives;
   entries : l.self.entries ≡ l.initial.self.entries;
   limit : l.self.most ≡ l.initial.self.most;
+  most : l.src.most ≡ l.initial.src.most;
   passed : (file : List ℕ) → l.initial.src.seen.file ≡ Some file → length file < 2 ^ 63 → PassedSoFar file l.initial.self.members.items l.self.members.items l.at (extent_of_names l.names);
 }
 

@@ -24,7 +24,7 @@ returns-clause-links g c = λ inputs fresh static steps ends.
 
 pub returns-clause-listed : goal.returns-clause-listed
 returns-clause-listed g c = λ inputs fresh static steps ends.
-    let all = planned_files (g.F.InputFiles.file c.args.files.now) c.args.plan.now c.args.self.now.room.headers in
+    let all = planned_files (g.F.InputFiles.file c.args.files.now.files) c.args.plan.now c.args.self.now.room.headers in
     let names = map (λ (a : Bor (List ℕ)). a.now) c.args.asked.now in
     on_ok_then _ _ c.end_with.result (λ was.
     let made = on_ok _ _ _ was (c.take_all-taken.ensures.links inputs fresh static steps) in
@@ -34,7 +34,7 @@ returns-clause-listed g c = λ inputs fresh static steps ends.
 
 pub returns-clause-marked : goal.returns-clause-marked
 returns-clause-marked g c = λ inputs fresh static steps ends.
-    let all = planned_files (g.F.InputFiles.file c.args.files.now) c.args.plan.now c.args.self.now.room.headers in
+    let all = planned_files (g.F.InputFiles.file c.args.files.now.files) c.args.plan.now c.args.self.now.room.headers in
     let names = map (λ (a : Bor (List ℕ)). a.now) c.args.asked.now in
     on_ok_then _ _ c.end_with.result (λ was.
     let made = on_ok _ _ _ was (c.take_all-taken.ensures.links inputs fresh static steps) in
@@ -44,7 +44,7 @@ returns-clause-marked g c = λ inputs fresh static steps ends.
 
 pub returns-clause-problems : goal.returns-clause-problems
 returns-clause-problems g c = λ inputs format names_of fresh static steps ends.
-    let all = planned_files (g.F.InputFiles.file c.args.files.now) c.args.plan.now c.args.self.now.room.headers in
+    let all = planned_files (g.F.InputFiles.file c.args.files.now.files) c.args.plan.now c.args.self.now.room.headers in
     let names = map (λ (a : Bor (List ℕ)). a.now) c.args.asked.now in
     on_ok_then _ _ c.end_with.result (λ was.
     let made = on_ok _ _ _ was (c.take_all-taken.ensures.links inputs fresh static steps) in
@@ -58,20 +58,20 @@ returns-clause-output g c = ap (λ (r : Resolver). r.output) c.end_with.ensures.
 
 pub returns-clause-names : goal.returns-clause-names
 returns-clause-names g c = λ inputs fresh static steps ends.
-    let all = planned_files (g.F.InputFiles.file c.args.files.now) c.args.plan.now c.args.self.now.room.headers in
+    let all = planned_files (g.F.InputFiles.file c.args.files.now.files) c.args.plan.now c.args.self.now.room.headers in
     let names = ap (λ (r : LinkRoom). r.names) (c.end_with.ensures.room ∙ c.list_by_keys.ensures.room) in
     let rows = ap (λ (l : Linking). l.rows) (c.end_with.ensures.same ∙ c.list_by_keys.ensures.same) in
     on_ok_then _ _ c.end_with.result (λ was. rows_still all c.take_all-taken.new.self c.end_with.new.self names rows (on_ok _ _ _ was (c.take_all-taken.ensures.names inputs fresh static steps))) (c.end_with.ensures.ends ends)
 
 pub returns-clause-named : goal.returns-clause-named
 returns-clause-named g c = λ inputs path fresh static steps paths ends.
-    let all = planned_files (g.F.InputFiles.file c.args.files.now) c.args.plan.now c.args.self.now.room.headers in
+    let all = planned_files (g.F.InputFiles.file c.args.files.now.files) c.args.plan.now c.args.self.now.room.headers in
     let names = ap (λ (r : LinkRoom). r.names) (c.end_with.ensures.room ∙ c.list_by_keys.ensures.room) in
     let rows = ap (λ (l : Linking). l.rows) (c.end_with.ensures.same ∙ c.list_by_keys.ensures.same) in
     on_ok_then _ _ c.end_with.result
     (λ was.
     let room : HasListRoom c.take_all-taken.new.self = on_ok _ _ _ was (c.take_all-taken.ensures.room inputs fresh static steps) in
-    rows_are_named all path (g.F.InputFiles.text c.take_all-taken.new.files) c.end_with.new.self (λ input. ap (λ (t : ℕ → Option (List ℕ)). t input) c.take_all-taken.ensures.text ∙ paths input)
+    rows_are_named all path (g.F.InputFiles.text c.take_all-taken.new.files.files) c.end_with.new.self (λ input. ap (λ (t : ℕ → Option (List ℕ)). t input) c.take_all-taken.ensures.text ∙ paths input)
     (λ index. ap (λ v. get_or v.items index None) (c.end_with.ensures.kinds ∙ c.list_by_keys.ensures.kinds) ∙ room.kinds index)
     (rows_still all c.take_all-taken.new.self c.end_with.new.self names rows (on_ok _ _ _ was (c.take_all-taken.ensures.names inputs fresh static steps))))
     (c.end_with.ensures.ends ends)
@@ -88,7 +88,7 @@ returns-clause-kinds g c = λ inputs fresh static steps ends.
 
 pub returns-clause-refused : goal.returns-clause-refused
 returns-clause-refused g c = λ inputs end fresh static steps ends.
-    let all = planned_files (g.F.InputFiles.file c.args.files.now) c.args.plan.now c.args.self.now.room.headers in
+    let all = planned_files (g.F.InputFiles.file c.args.files.now.files) c.args.plan.now c.args.self.now.room.headers in
     on_ok_then _ _ c.end_with.result (λ was.
     taken_ends all c.args.plan.now c.take_all-taken.new.self c.end_with.new.self _ end c.take_all-taken.result was.0 (was.1 ∙ c.list_by_keys.ensures.row)
     (ap (λ (l : Linking). l.rows) (c.end_with.ensures.same ∙ c.list_by_keys.ensures.same)) (c.take_all-taken.ensures.leaves inputs fresh static steps)) (c.end_with.ensures.refused end ends)

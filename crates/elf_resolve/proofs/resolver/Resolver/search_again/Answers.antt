@@ -1,28 +1,36 @@
 use Rattle.std.proofs.Common.{◌≡◌, ap, ◌∙◌}
-use Rattle.std.specs.Prelude.{Some}
+use Rattle.std.specs.Prelude.{OnOk, Some}
 use Rattle.std.specs.List.{slice_get}
+use Rattle.std.proofs.lemmas.Result.{err_from_is_err_and}
+use Rattle.elf_model.specs.LinkArchives.{link_members, members_as_objects}
+use Rattle.elf_model.specs.LinkInputs.{archive_again}
+use Rattle.elf_resolve.specs.EndsAtRefusal.{LeavesRows}
+use Rattle.elf_resolve.specs.NamedRows.{KeepsRowNames}
+use Rattle.elf_resolve.specs.OpenedArchives.{archive_of_input}
+use Rattle.elf_resolve.specs.Resolved.{linking_of, open_archive}
+use Rattle.elf_resolve.specs.ResolvedInputs.{TookMembers}
 use Rattle.elf_resolve.specs.declared.archives.OpenedArchive.{OpenedArchive}
 use Rattle.elf_resolve.proofs.OpenedLaws.{some_of}
-use Rattle.elf_resolve.proofs.TakenMemberLaws.{again_makes}
-use Rattle.std.proofs.lemmas.Result.{err_from_is_err_and}
+use Rattle.elf_resolve.proofs.ReadBudgetLaws.{file_spends, spends_none, spends_same}
 use Rattle.elf_resolve.proofs.RefusalLaws.{limit_stops}
-use Rattle.elf_resolve.proofs.StopLaws.{again_leaves}
-use Rattle.elf_resolve.proofs.NamedRowLaws.{names_again}
+use Rattle.elf_resolve.proofs.TakenMemberLaws.{of_archive}
 use Rattle.elf_resolve.proofs.resolver.Resolver.search_again.Goals as goal
 
 pub returns-clause-searches : goal.returns-clause-searches
 returns-clause-searches g c = λ all a file is at found file_is known.
+    let old = c.args.self.now in
     let one : c.in-Some.archive ≡ a = some_of c.in-Some.archive a (c.in-Some.ensures ∙ ap (λ l. slice_get l c.args.archive) c.deref.ensures.value ∙ at) in
-    let bytes : g.F.InputFiles.file c.args.files.now c.in-Some.archive.input ≡ Some file = ap (λ (x : OpenedArchive). g.F.InputFiles.file c.args.files.now x.input) one ∙ known in
-    again_makes all file c.args.self.now c.open.new.self c.search-taken.new.self c.close.new.self c.in-Some.archive a c.search-taken.result c.open.ensures.same c.close.ensures one
-    (λ is_there found_there file_there. c.search-taken.ensures.searches all file is_there found_there file_there (c.in_ok-src.ensures.opens file bytes).1) is found file_is
+    of_archive (λ (x : OpenedArchive). (archive_of_input old.tables.archives.items x.input ≡ Some x) × (all.file x.input ≡ Some file) × (g.F.InputFiles.file c.args.files.now.files x.input ≡ Some file))
+    (λ x. OnOk c.search-taken.result (TookMembers old c.search-taken.new.self (archive_again (linking_of old) (open_archive old.tables.entries.items old.taken.items x) (members_as_objects file (link_members file).members all.headers)))) one
+    (λ h. c.search-taken.ensures.searches all file is h.0 h.1 (c.in_ok-src.ensures.opens file h.2).1) (found, file_is, known)
 
 pub returns-clause-leaves : goal.returns-clause-leaves
 returns-clause-leaves g c = λ all a file is at found file_is known none.
+    let old = c.args.self.now in
     let one : c.in-Some.archive ≡ a = some_of c.in-Some.archive a (c.in-Some.ensures ∙ ap (λ l. slice_get l c.args.archive) c.deref.ensures.value ∙ at) in
-    let bytes : g.F.InputFiles.file c.args.files.now c.in-Some.archive.input ≡ Some file = ap (λ (x : OpenedArchive). g.F.InputFiles.file c.args.files.now x.input) one ∙ known in
-    again_leaves all file c.args.self.now c.open.new.self c.search-taken.new.self c.close.new.self c.in-Some.archive a c.search-taken.result c.open.ensures.same c.close.ensures one
-    (λ is_there found_there file_there none_there. c.search-taken.ensures.leaves all file is_there found_there file_there (c.in_ok-src.ensures.opens file bytes).1 none_there) is found file_is none
+    of_archive (λ (x : OpenedArchive). (archive_of_input old.tables.archives.items x.input ≡ Some x) × (all.file x.input ≡ Some file) × (g.F.InputFiles.file c.args.files.now.files x.input ≡ Some file))
+    (λ x. LeavesRows all ⊥ c.search-taken.new.self (archive_again (linking_of old) (open_archive old.tables.entries.items old.taken.items x) (members_as_objects file (link_members file).members all.headers)).rows c.search-taken.result) one
+    (λ h. c.search-taken.ensures.leaves all file is h.0 h.1 (c.in_ok-src.ensures.opens file h.2).1 none) (found, file_is, known)
 
 pub returns-in_err-src-clause-leaves : goal.returns-in_err-src-clause-leaves
 returns-in_err-src-clause-leaves g c = λ all a file is at found file_is known none.
@@ -31,7 +39,19 @@ returns-in_err-src-clause-leaves g c = λ all a file is at found file_is known n
 
 pub returns-clause-names : goal.returns-clause-names
 returns-clause-names g c = λ all a file is at found file_is known.
+    let old = c.args.self.now in
     let one : c.in-Some.archive ≡ a = some_of c.in-Some.archive a (c.in-Some.ensures ∙ ap (λ l. slice_get l c.args.archive) c.deref.ensures.value ∙ at) in
-    let bytes : g.F.InputFiles.file c.args.files.now c.in-Some.archive.input ≡ Some file = ap (λ (x : OpenedArchive). g.F.InputFiles.file c.args.files.now x.input) one ∙ known in
-    names_again all file c.args.self.now c.open.new.self c.search-taken.new.self c.close.new.self c.in-Some.archive a c.search-taken.result c.open.ensures.same c.close.ensures one
-    (λ is_there found_there file_there. c.search-taken.ensures.names all file is_there found_there file_there (c.in_ok-src.ensures.opens file bytes).1) is found file_is
+    of_archive (λ (x : OpenedArchive). (archive_of_input old.tables.archives.items x.input ≡ Some x) × (all.file x.input ≡ Some file) × (g.F.InputFiles.file c.args.files.now.files x.input ≡ Some file))
+    (λ x. OnOk c.search-taken.result (KeepsRowNames all old c.search-taken.new.self)) one
+    (λ h. c.search-taken.ensures.names all file is h.0 h.1 (c.in_ok-src.ensures.opens file h.2).1) (found, file_is, known)
+
+pub returns-in_default-clause-spends : goal.returns-in_default-clause-spends
+returns-in_default-clause-spends g c = spends_none c.args.files.now.budget
+
+pub returns-in_err-src-clause-spends : goal.returns-in_err-src-clause-spends
+returns-in_err-src-clause-spends g c = spends_same c.args.files.now.budget c.open.new.self.budget c.in_err-src.ensures.within
+
+pub returns-clause-spends : goal.returns-clause-spends
+returns-clause-spends g c =
+    let within = c.in_ok-src.ensures.within in
+    file_spends c.args.files.now.budget c.open.new.self.budget c.close.new.self.budget c.in_ok-src.src c.search-taken.new.src within.0 within.2 c.search-taken.ensures.most c.close.ensures.pays

@@ -14,7 +14,7 @@ use Rattle.elf_resolve.proofs.resolver.Resolver.take_inputs.Goals as goal
 
 pub returns-clause-takes : goal.returns-clause-takes
 returns-clause-takes g c = λ inputs fresh static steps.
-    let all = planned_files (g.F.InputFiles.file c.args.files.now) c.args.plan.now c.args.self.now.room.headers in
+    let all = planned_files (g.F.InputFiles.file c.args.files.now.files) c.args.plan.now c.args.self.now.room.headers in
     let names = map (λ (a : Bor (List ℕ)). a.now) c.args.asked.now in
     c.take_steps.ensures.takes c.args.self.now.room.headers _ static (step_starts all c.args.plan.now c.args.self.now c.ask_all.new.self names inputs refl fresh c.in_ok-ask_all.ensures.asks steps)
 
@@ -25,7 +25,7 @@ returns-in_err-ask_all-clause-leaves g c = λ inputs fresh static steps.
 
 pub returns-clause-leaves : goal.returns-clause-leaves
 returns-clause-leaves g c = λ inputs fresh static steps.
-    let all = planned_files (g.F.InputFiles.file c.args.files.now) c.args.plan.now c.args.self.now.room.headers in
+    let all = planned_files (g.F.InputFiles.file c.args.files.now.files) c.args.plan.now c.args.self.now.room.headers in
     let names = map (λ (a : Bor (List ℕ)). a.now) c.args.asked.now in
     let rows = ap (λ (r : Resolver). r.link.rows.rows) c.in_ok-ask_all.ensures.asks.same ∙ fresh.rows in
     c.take_steps.ensures.leaves c.args.self.now.room.headers _ static (step_starts all c.args.plan.now c.args.self.now c.ask_all.new.self names inputs refl fresh c.in_ok-ask_all.ensures.asks steps)
@@ -33,7 +33,7 @@ returns-clause-leaves g c = λ inputs fresh static steps.
 
 pub returns-clause-names : goal.returns-clause-names
 returns-clause-names g c = λ inputs fresh static steps.
-    let all = planned_files (g.F.InputFiles.file c.args.files.now) c.args.plan.now c.args.self.now.room.headers in
+    let all = planned_files (g.F.InputFiles.file c.args.files.now.files) c.args.plan.now c.args.self.now.room.headers in
     let names = map (λ (a : Bor (List ℕ)). a.now) c.args.asked.now in
     let asked = c.in_ok-ask_all.ensures.asks in
     let none : HasNames all c.args.self.now = fresh.names ∙ sym (ap (λ l. names_of_rows (named_in all) 0 l) fresh.rows) in

@@ -2,6 +2,7 @@ use Rattle.std.proofs.Common.{◌≤◌, length, refl, sym, subst, ◌∙◌, ar
 use Rattle.elf_resolve.specs.NamedRows.{KeepsRowNames}
 use Rattle.elf_resolve.specs.Plans.{IsStaticPlan, planned_files}
 use Rattle.elf_resolve.specs.ResolvedInputs.{IsAtStep, IsLink}
+use Rattle.elf_resolve.proofs.ReadBudgetLaws.{spends_then}
 use Rattle.elf_resolve.proofs.StepLaws.{steps_end}
 use Rattle.std.proofs.lemmas.Result.{err_from_is_err_and}
 use Rattle.elf_resolve.specs.EndsAtRefusal.{HasBadScript, NoneRefused, StopsLink}
@@ -10,7 +11,7 @@ use Rattle.elf_resolve.proofs.resolver.Resolver.take_steps.Goals as goal
 pub returns-then-place-count-clause-takes : goal.returns-then-place-count-clause-takes
 returns-then-place-count-clause-takes g c = λ headers whole static at.
     let past : length c.args.plan.now.steps.items ≤ c.turns.place = omega (arith, c.len-count.ensures, c.args.plan.now.steps.ok.0, c.if-place-count.true) in
-    steps_end (planned_files (g.F.InputFiles.file c.args.files.now) c.args.plan.now headers) c.args.plan.now whole c.turns.self c.turns.place past (c.turns.invariant.1 headers whole static at)
+    steps_end (planned_files (g.F.InputFiles.file c.args.files.now.files) c.args.plan.now headers) c.args.plan.now whole c.turns.self c.turns.place past (c.turns.invariant.1 headers whole static at)
 
 pub turns-preserved : goal.turns-preserved
 turns-preserved g c = (
@@ -36,6 +37,7 @@ turns-preserved g c = (
       let is_now = subst (λ k. IsLink (planned_files k plan headers) c.turns.self) (sym c.turns.invariant.0) before.is_link in
       let keeps = subst (λ k. KeepsRowNames (planned_files k plan headers) c.turns.self c.take_step.new.self) c.turns.invariant.0 (c.in_ok-after.ensures.names headers static_now is_now) in
       keeps (c.turns.invariant.4 headers whole static at held),
+  spends_then c.turns.invariant.5 c.take_step.ensures.spends,
 )
 
 pub returns-then-place-count-clause-leaves : goal.returns-then-place-count-clause-leaves
@@ -51,3 +53,6 @@ returns-in_err-after-clause-leaves g c = λ headers whole static at none.
     let none_now = subst (λ k. NoneRefused (planned_files k plan headers) c.turns.self.link.rows.rows) (sym same) (c.turns.invariant.2 headers whole static at none) in
     rw (p.1, p.2) (subst (λ k. StopsLink (planned_files k plan headers) (HasBadScript plan) c.take_step.new.self.link.rows.rows whole.rows c.take_step.new.self.row c.in_err-after.field-0.0) same
     (c.in_err-after.ensures.leaves headers whole static_now before_now none_now))
+
+pub returns-in_err-after-clause-spends : goal.returns-in_err-after-clause-spends
+returns-in_err-after-clause-spends g c = spends_then c.turns.invariant.5 c.take_step.ensures.spends

@@ -35,6 +35,7 @@ loop-number-preserved g c = (
   λ files file file_is known has held.
       let before = c.loop-number.invariant.1 file known has in
       c.in_ok-take_if_file.ensures.names files file file_is (ap whole_file_of c.loop-number.invariant.0 ∙ known) (still_has file _ _ _ _ before.0 has) (c.loop-number.invariant.3 files file file_is known has held),
+  c.take_if_file.ensures.most ∙ c.loop-number.invariant.4,
 )
 
 pub returns-clause-takes : goal.returns-clause-takes

@@ -21,3 +21,4 @@ invariant-loop-number g l =
     × ((files : LinkFiles) (file : List ℕ) → file_of_range l.initial.src.seen ≡ Some file → HasMembers file l.initial.self.tables.members.items l.archive → files.headers ≡ l.initial.self.room.headers → files.file l.archive.input ≡ Some file
     → NoneRefused files l.initial.self.link.rows.rows → NoneRefused files l.self.link.rows.rows)
     × ((files : LinkFiles) (file : List ℕ) → files.file l.archive.input ≡ Some file → file_of_range l.initial.src.seen ≡ Some file → HasMembers file l.initial.self.tables.members.items l.archive → KeepsRowNames files l.initial.self l.self)
+    × (l.src.most ≡ l.initial.src.most)

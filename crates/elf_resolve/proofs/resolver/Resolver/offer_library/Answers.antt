@@ -1,0 +1,10 @@
+use Rattle.elf_resolve.proofs.ReadBudgetLaws.{file_spends, spends_same}
+use Rattle.elf_resolve.proofs.resolver.Resolver.offer_library.Goals as goal
+
+pub returns-in_err-src-clause-spends : goal.returns-in_err-src-clause-spends
+returns-in_err-src-clause-spends g c = spends_same c.args.files.now.budget c.open.new.self.budget c.in_err-src.ensures.within
+
+pub returns-clause-spends : goal.returns-clause-spends
+returns-clause-spends g c =
+    let within = c.in_ok-src.ensures.within in
+    file_spends c.args.files.now.budget c.open.new.self.budget c.close.new.self.budget c.in_ok-src.src c.offer_keys-offered.new.src within.0 within.2 c.offer_keys-offered.ensures.most c.close.ensures.pays
