@@ -99,6 +99,7 @@ pub(crate) struct SearchEnd {
 }
 
 /// Takes the members of an archive that its index asks for.
+#[tactic(auto, using(crate::proofs::ReadBudgetLaws::limit_of_number))]
 pub(crate) fn search_members<S: Source>(
     link: &mut Link<'_>,
     room: &mut LinkRoom,

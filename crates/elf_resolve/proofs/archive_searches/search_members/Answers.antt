@@ -1,6 +1,5 @@
 use Rattle.std.proofs.Common.{◌≡◌, ◌-◌, length, arith}
 use Rattle.elf_resolve.proofs.OpenedLaws.{outside_put}
-use Rattle.elf_resolve.proofs.ReadBudgetLaws.{limit_of_number}
 use Rattle.elf_resolve.proofs.archive_searches.search_members.Goals as goal
 
 pub returns-clause-outside : goal.returns-clause-outside
@@ -8,6 +7,3 @@ returns-clause-outside g c = λ fits.
     let range = c.within-start.result in
     let count : length c.search_archive-ended.new.taken ≡ range.1 - range.0 = omega (arith, c.search_archive-ended.auto.taken) in
     outside_put c.args.taken.now c.search_archive-ended.new.taken range c.args.archive.members (c.within-start.ensures.same fits) c.within-start.ensures.is_range.0 c.within-start.ensures.is_range.1 count
-
-pub returns-clause-most : goal.returns-clause-most
-returns-clause-most g c = limit_of_number _ _ (let kept = c.search_archive-ended.ensures.kept in cc kept)
