@@ -25,7 +25,7 @@ const LONG: [&str; 13] = [
     "littleendian",
 ];
 
-/// Options whose value is the next argument, unless it follows them, and which change nothing here.
+/// Options that change nothing here. The value of each is the next argument if it is not attached.
 pub(crate) const PASSED: [&str; 57] = [
     "a",
     "A",
