@@ -9,6 +9,7 @@ pub mod FaultRows
 pub mod RelativeListed
 pub mod Reports
 pub mod RowCursors
+pub mod NamedLayouts
 pub mod RowLayouts
 pub mod Shows
 pub mod Strings
@@ -17,6 +18,8 @@ pub mod SuffixNames
 pub mod SuffixTexts
 pub mod SymbolVersions
 pub mod Versions
+pub mod SearchedNames
+pub mod SoleNames
 pub mod TableRows
 pub mod TablesFound
 pub mod Viewed

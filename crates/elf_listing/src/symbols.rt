@@ -8,6 +8,7 @@ ghost use Rattle.elf_listing.specs.TablesFound.{AreSymbolsOf};
 use crate::listed_kind::ListedKind;
 use crate::listing::Listing;
 use crate::name_versions::{FoundVersions, NameVersions, NoVersions};
+use crate::named_symbols::{list_named, searched_name};
 use crate::row_cursor::RowCursor;
 use crate::row_places::place_of_symbol;
 use crate::row_selection::{RowSelection, SymbolClass};
@@ -94,6 +95,9 @@ impl ListedKind for Symbols {
             names,
             is_dynamic: header.sh_type == SHT_DYNSYM,
         };
+        if let Some(text) = searched_name(listing, &table, names) {
+            return list_named(listing, table, &rows, text);
+        }
         if listing.style.versions {
             return list_with_versions(listing, table, &rows);
         }

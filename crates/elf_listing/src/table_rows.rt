@@ -1,6 +1,7 @@
 //! The rows of a table, and the loop over them.
 ghost use Rattle.std.specs.Prelude.{◌≡◌};
 ghost use Rattle.elf_listing.specs.Choosing.{ShowsRows};
+ghost use Rattle.elf_options.specs.declared.caps.ListingStyle.{ListingStyle};
 ghost use Rattle.elf_listing.specs.TableRows.{BeginsTable, IsTableOf, ListsRow, ListsRows, RowFits, RowLayout};
 
 use crate::listing::Listing;
@@ -16,6 +17,9 @@ use elf_table::{Row, RunFault, Table};
 pub trait TableRows {
     /// What the rows are.
     ghost layout: { Self → RowLayout };
+
+    /// What the style is if they are shown.
+    ghost suits: { Self → ListingStyle → Type 0 } = { λ rows style. Unit {0} };
 
     /// Returns a cursor before the first row of a table.
     fn cursor(&self, table: Table) -> RowCursor
@@ -33,6 +37,7 @@ pub trait TableRows {
     ) -> Result<(), RunFault>
         requires format { R.FORMAT ≡ listing.old.style.format }
         requires rows { ShowsRows C.SELECTS listing.old.style }
+        requires suits { suits self.now listing.old.style }
         requires row { let lookup = V.lookup versions.old in
             RowFits listing.old.src.now.seen.size (layout self.now) lookup row.now }
         ensures keeps { V.lookup versions.new ≡ V.lookup versions.old }
@@ -47,7 +52,8 @@ pub(crate) fn list_rows<K: TableRows, V: NameVersions, S: Source, W: Sink>(
     rows: &K,
     versions: &mut V,
 ) -> Result<(), RunFault>
-    requires { let lookup = V.lookup versions.old in
+    requires suits { K.suits rows.now listing.old.style }
+    requires table { let lookup = V.lookup versions.old in
         IsTableOf listing.old.src.now.seen.size (K.layout rows.now) lookup table }
     ensures { let lookup = V.lookup versions.old in
         ListsRows listing.old listing.new result (K.layout rows.now) lookup table }
@@ -67,6 +73,7 @@ fn rows_of<R: Render, K: TableRows, V: NameVersions, S: Source, W: Sink>(
     versions: &mut V,
 ) -> Result<(), RunFault>
     requires format { R.FORMAT ≡ listing.old.style.format }
+    requires suits { K.suits rows.now listing.old.style }
     requires table { let lookup = V.lookup versions.old in
         IsTableOf listing.old.src.now.seen.size (K.layout rows.now) lookup table }
     ensures { let lookup = V.lookup versions.old in
@@ -89,6 +96,7 @@ fn rows_in<R: Render, C: RowSelection, K: TableRows, V: NameVersions, S: Source,
 ) -> Result<(), RunFault>
     requires format { R.FORMAT ≡ listing.old.style.format }
     requires rows { ShowsRows C.SELECTS listing.old.style }
+    requires suits { K.suits rows.now listing.old.style }
     requires table { let lookup = V.lookup versions.old in
         IsTableOf listing.old.src.now.seen.size (K.layout rows.now) lookup table }
     ensures { let lookup = V.lookup versions.old in

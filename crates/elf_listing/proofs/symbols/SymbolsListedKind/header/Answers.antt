@@ -43,6 +43,20 @@ list_with_versions-requires g c = record {
   within = c.in_ok-found.ensures.within;
 }
 
+pub list_named-requires-clause-symbols : goal.list_named-requires-clause-symbols
+list_named-requires-clause-symbols g c = record {
+  kind = let is = c.holds_symbols.ensures _ 0 c.section-header.ensures.fields in cc;
+  typed = λ file belongs. let is = c.holds_symbols.ensures file _ (c.section-header.ensures.is_at file belongs) in cc;
+  dynamic = λ file belongs. ap (λ (type : ℕ). type == 11) (c.section-header.ensures.is_at file belongs).sh_type;
+  held = c.in_ok-found.ensures.held;
+  table = c.in_ok-found.ensures.table;
+  within = c.in_ok-found.ensures.within;
+}
+
+pub returns-in-Some : goal.returns-in-Some
+returns-in-Some g c =
+    subst (λ (v : Bool). ListsHeader (symbols_part v) c.args.listing.now c.list_named.new.listing c.list_named.result c.args.index) (sym c.in-Some.ensures.plain) c.list_named.ensures
+
 pub returns-then-listing : goal.returns-then-listing
 returns-then-listing g c =
     subst (λ (v : Bool). ListsHeader (symbols_part v) c.args.listing.now c.list_with_versions.new.listing c.list_with_versions.result c.args.index) (sym c.if-listing.true) c.list_with_versions.ensures
