@@ -1,23 +1,22 @@
 -- What a search of a string table implies for the name at an index.
-use Rattle.std.proofs.Common.{◌≡◌, ◌≢◌, ℕ, ◌+◌, ◌-◌, ◌<◌, ◌≤◌, ◌==◌, ◌%◌, not, Bool, true, false, List, [], ◌∷◌, ◌++◌, length, get_or, take, drop, Option, None, Some, Result, Ok, Err, ◌⊎◌, inl, inr, refl, sym, ap, subst, ◌∙◌, arith, length-append, length-take, length-drop, get_or-take, get_or-drop}
-use Rattle.std.proofs.lemmas.List.{take_all}
+use Rattle.std.proofs.Common.{◌≡◌, ◌≢◌, ℕ, zero, suc, ◌+◌, ◌-◌, ◌<◌, ◌≤◌, ◌==◌, ◌%◌, not, Bool, true, false, List, [], ◌∷◌, ◌++◌, length, get_or, take, drop, IfErr, IfOk, MatchBool, Option, None, Some, Result, Ok, Err, ◌⊎◌, inl, inr, refl, sym, ap, subst, ◌∙◌, arith, length-append, length-take, length-drop, get_or-take, get_or-drop}
+use Rattle.std.proofs.lemmas.List.{drop_all, take_all, take_at}
 use Rattle.std.proofs.lemmas.List.Sums.{prefix_len_passes}
 use Rattle.std.proofs.lemmas.Bool.{cases_lt}
 use Rattle.std.proofs.lemmas.Bool.Decides.{nat_tests}
 use Rattle.memchr.specs.Find.{FindsNeedle, IsLastByte, OccursAt, is_byte}
-use Rattle.elf_model.specs.Prelude.{Cut, DisplayedName, IsNameOf, IsNulTerminatedAt, IsWanted, nul_in, same, shown, slice}
+use Rattle.elf_model.specs.Prelude.{Cut, DisplayedName, IsNameOf, IsNulTerminatedAt, nul_in, shown, slice}
 use Rattle.elf_model.specs.Names.DisplayedName.{Whole}
-use Rattle.elf_model.specs.declared.causes.Cause.{Cause}
-use Rattle.elf_model.specs.declared.causes.Cause.TheVariants.{NameOutside, NameUnended}
+use Rattle.elf_model.specs.declared.causes.Cause.TheVariants.{NameUnended}
 use Rattle.elf_model.proofs.NameLaws.{shown_whole}
 use Rattle.elf_model.proofs.NameLemmas.{View, is_cut, is_empty, is_outside, is_unended, is_whole, view}
 use Rattle.elf_model.proofs.NameLoops.{nul_in-nowhere, shown-open, shown-over}
 use Rattle.elf_model.proofs.Nuls.{none-free}
-use Rattle.elf_model.proofs.SameLaws.{same_causes, same_exactly, same_outside, same_unended}
-use Rattle.elf_table.specs.NamesRead.{ComparesName}
-use Rattle.elf_listing.specs.SearchedNames.{EndsNames, FindsName, IsLastNul, IsMarked, IsOther, IsSearched, KeepsMarks}
+use Rattle.elf_model.proofs.Slices.{slice-slice}
+use Rattle.elf_table.specs.Faults.{IsOfRead}
 use Rattle.elf_table.specs.declared.fault.Fault.{Fault}
 use Rattle.elf_table.specs.declared.fault.Fault.TheVariants.{Refused, Source}
+use Rattle.elf_listing.specs.SearchedNames.{EndsNames, FindsName, IsLastNul, IsMarked, IsOther, IsSearched, KeepsMarks}
 use Rattle.elf_table.proofs.Pieces.{byte-of_file}
 
 -- A SEARCH GOES ON in the rest of a piece
@@ -121,6 +120,17 @@ module _ (file piece : List ℕ) (at size done n : ℕ) (here : piece ≡ slice 
 pub ends-none : (table : List ℕ) → EndsNames table 0 0
 ends-none table = record { below = omega arith; none_after = λ index from below nul. absurd (omega (arith, below)); nul_before = λ last e. absurd (omega (arith, e)) }
 
+-- so many bytes, and more after them
+take-more : (bytes : List ℕ) (n m : ℕ) → take (n + m) bytes ≡ take n bytes ++ take m (drop n bytes)
+take-more bytes zero m = let on : zero + m ≡ m = omega arith in ap (λ (k : ℕ). take k bytes) on
+take-more [] (suc n) m = take_all (suc n + m) [] (omega arith) ∙ sym (take_all m [] (omega arith))
+take-more (b ∷ bytes) (suc n) m = let on : suc n + m ≡ suc (n + m) = omega arith in ap (λ (k : ℕ). take k (b ∷ bytes)) on ∙ ap (λ (x : List ℕ). b ∷ x) (take-more bytes n m)
+
+drop-drop-add : (bytes : List ℕ) (n m : ℕ) → drop m (drop n bytes) ≡ drop (n + m) bytes
+drop-drop-add bytes zero m = let on : m ≡ zero + m = omega arith in ap (λ (k : ℕ). drop k bytes) on
+drop-drop-add [] (suc n) m = drop_all m [] (omega arith) ∙ sym (drop_all (suc n + m) [] (omega arith))
+drop-drop-add (b ∷ bytes) (suc n) m = let on : suc (n + m) ≡ suc n + m = omega arith in drop-drop-add bytes n m ∙ ap (λ (k : ℕ). drop k (b ∷ bytes)) on
+
 -- after the last: no more fits
 pub marks-all : (table needle : List ℕ) (marks : List Bool) (done : ℕ) → length table < done + length needle
     → ((k : ℕ) → k < done → OccursAt table needle k → IsMarked marks k) → (k : ℕ) → OccursAt table needle k → IsMarked marks k
@@ -144,8 +154,8 @@ named-occurs table text off named =
     }
 
 -- THE NAME AT AN INDEX of a table that was searched
-module _ (table text : List ℕ) (off cap ended : ℕ) (marks : List Bool) (wanted : IsWanted text) (few : length text ≤ cap)
-    (searched : IsSearched table (text ++ 0 ∷ []) ended marks) (below : off < length table) where
+module _ (table text : List ℕ) (off cap ended : ℕ) (marks : List Bool) (whole : nul_in text ≡ None) (few : length text ≤ cap) (searched : IsSearched table (text ++ 0 ∷ []) ended marks)
+    (below : off < length table) where
   -- after the last NUL
   open-byte : ended ≤ off → (k : ℕ) → off + k < length table → get_or table (off + k) 0 ≢ 0
   open-byte from k inside = searched.ends.none_after (off + k) (omega (arith, from)) inside
@@ -164,19 +174,28 @@ module _ (table text : List ℕ) (off cap ended : ℕ) (marks : List Bool) (want
       let rest = length-drop off table in
       λ nul. open-byte from k (omega (arith, less, rest, below)) (sym (get_or-drop off table k 0) ∙ nul)))
 
+  -- the name is there
+  pub same-is-whole : slice table off (length (text ++ 0 ∷ [])) ≡ text ++ 0 ∷ [] → shown table off cap ≡ Ok (Whole text)
+  same-is-whole same = (shown_whole table off cap text).1 (inl (whole, same), few)
+
   -- before it every name ends
   module _ (closed : off < ended) where
     nul : get_or table (ended - 1) 0 ≡ 0
     nul = searched.ends.nul_before (ended - 1) (omega (arith, closed))
 
     -- a name that is not the one that was searched for
-    is-other : (shown table off cap ≡ Ok (Whole text) → ⊥) → IsOther (shown table off cap) text
+    pub is-other : (IsNulTerminatedAt table off text → ⊥) → IsOther (shown table off cap) text
     is-other absent = go (view table off cap)
       where
+        by : IsNameOf table off text → ⊥
+        by (inl named) = absent named
+        by (inr none) = let e = ap length none.0.0 in omega (arith, e, below)
+
         go : View table off cap → IsOther (shown table off cap) text
         go (is_empty h e) = let none = ap length h.0 in absurd (omega (arith, none, below))
         go (is_outside h e) = let past = h.0 in absurd (omega (arith, past, below))
-        go (is_whole place i n e) = record { name = Whole (take place (slice table off (cap + 1))); is = e; other = λ is. absent (e ∙ ap (λ (x : DisplayedName). Ok x) is) }
+        go (is_whole place i n e) =
+            record { name = Whole (take place (slice table off (cap + 1))); is = e; other = λ is. by ((shown_whole table off cap text).0 (e ∙ ap (λ (x : DisplayedName). Ok x) is)).0 }
         go (is_cut i n e) = record { name = Cut (slice table off cap); is = e; other = λ is. cc }
         go (is_unended i all none e) =
             let ends = searched.ends.below in
@@ -184,29 +203,32 @@ module _ (table text : List ℕ) (off cap ended : ℕ) (marks : List Bool) (want
             absurd (nul-nowhere (drop off table) (ended - 1 - off) none (omega (arith, rest, closed, ends)) (get_or-drop off table (ended - 1 - off) 0 ∙ ap (λ (x : ℕ). get_or table x 0) (omega (arith, closed)) ∙ nul))
 
     pub unmarked-is-other : (IsMarked marks off → ⊥) → IsOther (shown table off cap) text
-    unmarked-is-other unmarked = is-other (λ e. by ((shown_whole table off cap text).0 e).0)
-      where
-        by : IsNameOf table off text → ⊥
-        by (inl named) = unmarked (searched.marked off (named-occurs table text off named))
-        by (inr none) = let e = ap length none.0.0 in omega (arith, e, below)
+    unmarked-is-other unmarked = is-other (λ named. unmarked (searched.marked off (named-occurs table text off named)))
 
-    -- the comparison says whether it is the one
-    pub compared-finds : (at : ℕ) (result : Result Bool Fault) → ComparesName at result (same table off text) → FindsName at result (shown table off cap) text
-    compared-finds at (Ok true) is = (shown_whole table off cap text).1 ((same_exactly table off text wanted).0 is, few)
-    compared-finds at (Ok false) is = is-other (λ e. let same = (same_exactly table off text wanted).1 ((shown_whole table off cap text).0 e).0 in cc)
-    compared-finds at (Err (Source fault place)) refuses = tt
-    compared-finds at (Err (Refused refusal)) refuses = λ other. let r = refuses other in absurd (by refusal.cause r.1 (same_causes table off text refusal.cause r.1))
-      where
-        by : (cause : Cause) → same table off text ≡ Err cause → (cause ≡ NameOutside) ⊎ (cause ≡ NameUnended) → ⊥
-        by cause is (inl outside) =
-            let past = ((same_outside table off text).0 (is ∙ ap (λ (c : Cause). Err c) outside)).0 in omega (arith, past, below)
-        by cause is (inr unended) =
-            let short = (same_unended table off text).0 (is ∙ ap (λ (c : Cause). Err c) unended) in
-            let all = short.1 in
-            let rest = length-drop off table in
-            let ends = searched.ends.below in
-            let k : ℕ = ended - 1 - off in
-            let less : k < length (drop off table) = omega (arith, rest, closed, ends) in
-            let there = get_or-drop off table k 0 ∙ ap (λ (x : ℕ). get_or table x 0) (omega (arith, closed)) ∙ nul in
-            let byte = sym (get_or-take (length (drop off table)) text k 0 less) ∙ sym (ap (λ (x : List ℕ). get_or x k 0) short.2) ∙ there in
-            nul-nowhere text k wanted.1 (omega (arith, less, all)) byte
+    pub short-is-other : length table < off + length (text ++ 0 ∷ []) → IsOther (shown table off cap) text
+    short-is-other short = is-other (λ named. let occurs = named-occurs table text off named in let fits = occurs.fits in omega (arith, fits, short))
+
+    -- the bytes there say whether it is the one
+    pub compared-finds : (at : ℕ) (result : Result Bool Fault) (bytes wanted : List ℕ) → bytes ≡ slice table off (length (text ++ 0 ∷ [])) → wanted ≡ text ++ 0 ∷ []
+        → IfOk result (λ same. MatchBool same (bytes ≡ wanted) (bytes ≢ wanted)) → IfErr result IsOfRead → FindsName at result (shown table off cap) text
+    compared-finds at (Ok true) bytes wanted here is same read = same-is-whole (sym here ∙ same ∙ is)
+    compared-finds at (Ok false) bytes wanted here is differs read = is-other (λ named. differs (here ∙ named.1 ∙ sym is))
+    compared-finds at (Err (Source fault place)) bytes wanted here is same read = tt
+    compared-finds at (Err (Refused refusal)) bytes wanted here is same read = λ other. absurd (other read)
+
+-- BYTES THAT ARE COMPARED, piece by piece: the front of a buffer is what was read into it
+pub piece-as : (out rest wanted : List ℕ) (done count : ℕ) → length out ≡ count
+    → (take count (out ++ rest) ≡ out) × (take (done + count - done) (drop done wanted) ≡ slice wanted done count)
+piece-as out rest wanted done count long =
+    let on : done + count - done ≡ count = omega arith in
+    (ap (λ (n : ℕ). take n (out ++ rest)) (sym long) ∙ take_at out rest (length out) refl, ap (λ (n : ℕ). take n (drop done wanted)) on)
+
+module _ (file wanted : List ℕ) (at done count : ℕ) (within : done + count ≤ length wanted) where
+  pub same-more : slice file at done ≡ take done wanted → slice file (at + done) count ≡ slice wanted done count → slice file at (done + count) ≡ take (done + count) wanted
+  same-more front next =
+      take-more (drop at file) done count ∙ ap (λ (x : List ℕ). x ++ take count (drop done (drop at file))) front
+      ∙ ap (λ (x : List ℕ). take done wanted ++ x) (ap (take count) (drop-drop-add file at done) ∙ next) ∙ sym (take-more wanted done count)
+
+  pub differs-here : slice file (at + done) count ≢ slice wanted done count → slice file at (length wanted) ≢ wanted
+  differs-here other same =
+      other (sym (slice-slice file at (length wanted) done count within) ∙ ap (λ (x : List ℕ). slice x done count) same)

@@ -1,13 +1,13 @@
 -- Rows that are selected by one name.
-use Rattle.std.specs.Prelude.{ℕ, ◌≡◌, ◌+◌, ◌*◌, ◌<◌, ◌≤◌, false, List, [], ◌∷◌, length}
-use Rattle.elf_model.specs.Prelude.{IsWanted, NoVersion, RowsOf, name_bytes, pad64}
+use Rattle.std.specs.Prelude.{ℕ, ◌≡◌, ◌+◌, ◌*◌, ◌<◌, ◌≤◌, false, List, [], ◌∷◌, length, None}
+use Rattle.elf_model.specs.Prelude.{NoVersion, RowsOf, name_bytes, nul_in}
 use Rattle.elf_options.specs.Chosen.{choice_of}
 use Rattle.elf_options.specs.declared.caps.ListingStyle.{ListingStyle}
 
 -- rows are selected by this name alone, with any version, and it is not cut
 pub record IsSoleName (style : ListingStyle) (text : List ℕ) : Type 0 where
   pub choice_is : choice_of style.choice ≡ RowsOf (record { name = text; asked = NoVersion } ∷ [])
-  pub wanted : IsWanted text
+  pub whole : nul_in text ≡ None
   pub few : length text ≤ style.cap.bytes
 
 -- it is searched for in a string table of a size, for so many rows without versions: then no more is
@@ -17,4 +17,4 @@ pub record IsSearchable (style : ListingStyle) (size rows : ℕ) (text : List �
   pub plain : style.versions ≡ false
   pub short : length text < 4096
   pub inside : length text < size
-  pub paid : size + rows * pad64 (length text + 1) ≤ rows * name_bytes style.cap.bytes
+  pub paid : size + rows * (length text + 1) ≤ rows * name_bytes style.cap.bytes

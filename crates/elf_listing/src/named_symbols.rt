@@ -29,14 +29,16 @@ const WHOLE: NameLimit = NameLimit { bytes: 4096 };
 pub(crate) struct NamedSymbols<'r, 't> {
     /// The symbols.
     pub(crate) symbols: Symbols,
+    /// The name.
+    pub(crate) text: &'t [u8],
     /// Where the name is.
-    pub(crate) found: &'r SearchedNames<'t>,
+    pub(crate) found: &'r SearchedNames<'r>,
 }
 
 impl TableRows for NamedSymbols<'_, '_> {
     ghost layout = { named_layout };
 
-    ghost suits = { λ rows style. IsSoleName style rows.found.now.text.now };
+    ghost suits = { λ rows style. IsSoleName style rows.text.now };
 
     fn cursor(&self, table: Table) -> RowCursor {
         RowCursor::All(Cursor::new(table))
@@ -52,7 +54,7 @@ impl TableRows for NamedSymbols<'_, '_> {
         let naming = listing.naming();
         let symbol = Sym::decode(row.whole());
         let off = u64::from(symbol.st_name);
-        if !listing.finds_name(self.found, off, row.at)? {
+        if !listing.finds_name(self.found, self.text, off, row.at)? {
             return Ok(());
         }
         let class = SymbolClass {
@@ -108,10 +110,11 @@ pub(crate) fn list_named<S: Source, W: Sink>(
     let mut needle = NameBuf::new();
     needle.add(text, WHOLE);
     needle.add(&[0], WHOLE);
-    let mut found = SearchedNames::new(rows.names, text);
-    listing.search_names(&mut found, needle.bytes())?;
+    let mut found = SearchedNames::new(rows.names, needle.bytes());
+    listing.search_names(&mut found)?;
     let named = NamedSymbols {
         symbols: *rows,
+        text,
         found: &found,
     };
     list_rows(listing, table, &named, &mut NoVersions)

@@ -1,8 +1,7 @@
 //! A string table in which a name was searched for.
-ghost use Rattle.std.specs.Prelude.{◌≡◌, ℕ, ◌+◌, ◌%◌, ◌^◌, ◌<◌, ◌≤◌, ◌∷◌, ◌++◌, [], length, true, IfErr, OnOk};
-ghost use Rattle.std.proofs.Math.ListN.{set};
+ghost use Rattle.std.specs.Prelude.{◌≡◌, ◌≢◌, ℕ, ◌+◌, ◌^◌, ◌<◌, ◌≤◌, ◌∷◌, ◌++◌, List, [], length, true, None, IfErr, IfOk, MatchBool, OnOk};
 ghost use Rattle.memchr.specs.Find.{OccursAt};
-ghost use Rattle.elf_model.specs.Prelude.{IsWanted, pad64, shown};
+ghost use Rattle.elf_model.specs.Prelude.{nul_in, shown, slice};
 ghost use Rattle.elf_table.specs.Faults.{IsOfRead};
 ghost use Rattle.elf_table.specs.Ledger.{CallDid, fault_of_result};
 ghost use Rattle.elf_listing.specs.SearchedNames.{FindsName, IsLastNul, IsMarked, IsSearched, KeepsMarks};
@@ -10,9 +9,12 @@ ghost use Rattle.elf_table.specs.Tables.{StringsInBounds, strings_in};
 
 use elf_record::Cause;
 use elf_source::{Counted, Source};
-use elf_table::{Fault, NameLimit, Names, WINDOW_BYTES, Window, refused};
+use elf_table::{Fault, NameLimit, Names, WINDOW_BYTES, Window, fill, refused};
 use memchr::memmem::find;
 use memchr::memrchr;
+
+/// How many bytes are compared at once.
+const CHUNK: usize = 64;
 
 /// How many marks there are.
 const MARKS: usize = 4096;
@@ -20,55 +22,50 @@ const MARKS: usize = 4096;
 /// A string table in which a name was searched for: where its last NUL is, and a mark for each
 /// index at which the name may be. Indexes that differ by a multiple of 4,096 share a mark.
 #[derive(Drop)]
-pub struct SearchedNames<'t> {
+pub(crate) struct SearchedNames<'t> {
     names: Names,
-    text: &'t [u8],
+    // The name, and a NUL after it.
+    needle: &'t [u8],
     // The index after the last NUL.
     ended: u64,
     marks: [bool; MARKS],
 }
 
 impl<'t> SearchedNames<'t> {
-    /// Creates a string table in which `text` is to be searched for.
-    pub fn new(names: Names, text: &'t [u8]) -> SearchedNames<'t>
+    /// Creates a string table in which a name is to be searched for, which `needle` is with a NUL
+    /// after it.
+    pub(crate) fn new(names: Names, needle: &'t [u8]) -> SearchedNames<'t>
         ensures names { result.names ≡ names }
-        ensures text { result.text.now ≡ text.now }
+        ensures needle { result.needle.now ≡ needle.now }
         ensures begins { result.ended ≡ 0 }
     {
         SearchedNames {
             names,
-            text,
+            needle,
             ended: 0,
             marks: [false; MARKS],
         }
     }
 
-    /// Returns the name that is searched for.
-    pub fn text(&self) -> &'t [u8]
-        ensures { result.now ≡ self.now.text.now }
-    {
-        self.text
-    }
-
-    /// Reads the string table once, in pieces of at most 4,096 bytes, and marks where the name and
-    /// a NUL after it, which are `needle`, are.
+    /// Reads the string table once, in pieces of at most 4,096 bytes, and marks where the name is.
     ///
     /// # Errors
     /// Returns a fault of a read, or the refusal `Budget`.
-    pub fn search<S: Source>(&mut self, src: &mut Counted<S>, needle: &[u8]) -> Result<(), Fault>
-        requires some { 0 < length needle.now }
-        requires few { length needle.now ≤ 4096 }
-        requires long { length needle.now ≤ self.old.names.size }
+    pub(crate) fn search<S: Source>(&mut self, src: &mut Counted<S>) -> Result<(), Fault>
+        requires some { 0 < length self.old.needle.now }
+        requires few { length self.old.needle.now ≤ 4096 }
+        requires long { length self.old.needle.now ≤ self.old.names.size }
         requires begins { self.old.ended ≡ 0 }
         requires within { StringsInBounds src.old.seen.size self.old.names }
         ensures rest { self.new
             ≡ record self.old { ended = self.new.ended; marks = self.new.marks } }
         ensures searches { CallDid src.old src.new (fault_of_result result) self.old.names.size
-            (λ file. OnOk result (IsSearched (strings_in file self.old.names) needle.now
+            (λ file. OnOk result (IsSearched (strings_in file self.old.names) self.old.needle.now
             self.new.ended self.new.marks)) }
         ensures fault { IfErr result IsOfRead }
     {
         let size = self.names.size();
+        let needle = self.needle;
         let least = needle.len() as u64;
         let mut window: Window<WINDOW_BYTES> = Window::new(
             self.names.at(),
@@ -89,27 +86,27 @@ impl<'t> SearchedNames<'t> {
     }
 
     /// Returns `true` if the name at the index `off` is the one that was searched for, which has at
-    /// most `cap` bytes (gABI 4, String Table). Where that was not found nothing is read.
+    /// most `cap` bytes (gABI 4, String Table). Nothing is read unless its mark is set.
     ///
     /// # Errors
     /// Returns a refusal at `at`, the offset of the entry that holds the index: `NameOutside` if
     /// the index is not below the table's size, `NameUnended` if no more than `cap` bytes are left
     /// and none is a NUL; `Budget`, only if a limit is set. Otherwise returns a fault of the source.
-    pub fn has<S: Source>(
+    pub(crate) fn has<S: Source>(
         &self,
         src: &mut Counted<S>,
         off: u64,
         at: u64,
         cap: NameLimit,
     ) -> Result<bool, Fault>
-        requires most { length self.now.text.now ≤ cap.bytes }
         requires some { 0 < self.now.names.size }
         requires within { StringsInBounds src.old.seen.size self.now.names }
-        ensures { CallDid src.old src.new (fault_of_result result)
-            (pad64 (length self.now.text.now + 1)) (λ file. IsWanted self.now.text.now →
-            IsSearched (strings_in file self.now.names) (self.now.text.now ++ 0 ∷ [])
+        ensures { CallDid src.old src.new (fault_of_result result) (length self.now.needle.now)
+            (λ file. (text : List ℕ) → self.now.needle.now ≡ text ++ 0 ∷ [] →
+            nul_in text ≡ None → length text ≤ cap.bytes →
+            IsSearched (strings_in file self.now.names) self.now.needle.now
             self.now.ended self.now.marks → FindsName at result
-            (shown (strings_in file self.now.names) off cap.bytes) self.now.text.now) }
+            (shown (strings_in file self.now.names) off cap.bytes) text) }
     {
         let size = self.names.size();
         if off >= size {
@@ -121,11 +118,44 @@ impl<'t> SearchedNames<'t> {
             }
             return refused(at, Cause::NameUnended);
         }
-        if !is_marked(&self.marks, off) {
+        if !is_marked(&self.marks, off) || self.needle.len() as u64 > size - off {
             return Ok(false);
         }
-        self.names.equals(src, off, at, self.text)
+        has_bytes(src, self.names.at() + off, self.needle)
     }
+}
+
+/// Returns `true` if the bytes at a file offset are these, reading as far as they are.
+///
+/// # Errors
+/// Returns a fault of a read, or the refusal `Budget`.
+fn has_bytes<S: Source>(src: &mut Counted<S>, at: u64, wanted: &[u8]) -> Result<bool, Fault>
+    requires within { at + length wanted.now ≤ src.old.seen.size }
+    requires ends { at + length wanted.now < 2 ^ 64 }
+    ensures did { CallDid src.old src.new (fault_of_result result) (length wanted.now)
+        (λ file. IfOk result (λ same. MatchBool same
+        (slice file at (length wanted.now) ≡ wanted.now)
+        (slice file at (length wanted.now) ≢ wanted.now))) }
+    ensures fault { IfErr result IsOfRead }
+{
+    let mut chunk = [0; CHUNK];
+    let mut done: usize = 0;
+    while done < wanted.len() {
+        let count = (wanted.len() - done).min(CHUNK);
+        fill(src, at + done as u64, &mut chunk[..count])?;
+        if !is_same(&chunk[..count], &wanted[done..done + count]) {
+            return Ok(false);
+        }
+        done += count;
+    }
+    Ok(true)
+}
+
+/// Returns `true` if some bytes are others.
+fn is_same(bytes: &[u8], others: &[u8]) -> bool
+    ensures { MatchBool result (bytes.now ≡ others.now) (bytes.now ≢ others.now) }
+{
+    bytes == others
 }
 
 /// Returns `true` if the mark of an index is set.

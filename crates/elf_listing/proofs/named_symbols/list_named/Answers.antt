@@ -1,5 +1,5 @@
 -- The search and the rows cost no more than rows with names, and the rows are the symbols'.
-use Rattle.std.proofs.Common.{◌≡◌, ℕ, ◌+◌, ◌*◌, ◌≤◌, List, [], ◌∷◌, ◌++◌, length, length-append, length-take, take, refl, sym, ap, subst, ◌∙◌, arith}
+use Rattle.std.proofs.Common.{◌≡◌, ℕ, ◌+◌, ◌*◌, ◌≤◌, List, [], ◌∷◌, ◌++◌, length, length-append, length-take, take, refl, sym, ap, subst, ◌∙◌, arith, rules}
 use Rattle.std.proofs.lemmas.Result.{err_from_is_err_and}
 use Rattle.elf_options.specs.Permitted.{style_of}
 use Rattle.elf_model.specs.Prelude.{each, name_bytes, pad64, section_at, slice, symbol_row, symbols}
@@ -25,10 +25,25 @@ search_names-requires-clause-long g c =
     let text = c.args.text.now in
     let name = c.requires.name in
     let short = name.short in
-    let is = c.bytes.ensures.value ∙ needle text _ _ _ (omega (arith, short)) c.new-needle.ensures c.add.ensures c.add-2.ensures in
+    let is = c.new-found.ensures.needle ∙ c.bytes.ensures.value ∙ needle text _ _ _ (omega (arith, short)) c.new-needle.ensures c.add.ensures c.add-2.ensures in
     let names = ap (λ (n : StringTableRange). n.size) c.new-found.ensures.names in
     let inside = name.inside in
     omega (arith, ap length is, length-append text (0 ∷ []), names, inside)
+
+pub list_rows-requires-clause-table : goal.list_rows-requires-clause-table
+list_rows-requires-clause-table g c =
+    let text = c.args.text.now in
+    let name = c.requires.name in
+    let short = name.short in
+    let inside = name.inside in
+    let e = c.in_ok-search_names.ensures in
+    let is = c.new-found.ensures.needle ∙ c.bytes.ensures.value ∙ needle text _ _ _ (omega (arith, short)) c.new-needle.ensures c.add.ensures c.add-2.ensures in
+    record {
+      entry = c.requires.symbols.within.0;
+      rows = search rules;
+      names = (refl, omega (arith, inside), ap (λ (x : SearchedNames). x.names) e.rest ∙ c.new-found.ensures.names, ap (λ (x : SearchedNames). x.needle.now) e.rest ∙ is, search rules);
+      fits = λ index below. tt;
+    }
 
 pub returns-in_err-search_names : goal.returns-in_err-search_names
 unfolding symbols
@@ -40,7 +55,7 @@ returns-in_err-search_names g c =
     let paid = c.requires.name.paid in
     let e = c.in_err-search_names.ensures in
     let size = ap (λ (n : StringTableRange). n.size) c.new-found.ensures.names in
-    let within = search_within c.args.rows.now.names.size c.args.table.count (pad64 (length c.args.text.now + 1)) (name_bytes cap) _ paid (section_within symbols f.store.now c.args.rows.now.section f.loaded.size _ cap 24 _ _ s.kind refl refl s.table) in
+    let within = search_within c.args.rows.now.names.size c.args.table.count (length c.args.text.now + 1) (name_bytes cap) _ paid (section_within symbols f.store.now c.args.rows.now.section f.loaded.size _ cap 24 _ _ s.kind refl refl s.table) in
     rw (p.1, p.2) (ListingCalls-unread _ _ _ _ _ _ (omega (arith, within, size)) e.fetches (λ file held. rw e.fetches.1 (unread-none _ _ _ e.fault)))
 
 pub returns : goal.returns
@@ -51,25 +66,21 @@ returns g c =
     let rows = c.args.rows.now in
     let text = c.args.text.now in
     let s = c.requires.symbols in
-    let name = c.requires.name in
-    let paid = name.paid in
-    let short = name.short in
+    let paid = c.requires.name.paid in
     let e = c.in_ok-search_names.ensures in
     let found = c.search_names.new.found in
     let same_style = e.fetches.0.same_style in
     let size = ap (λ (n : StringTableRange). n.size) c.new-found.ensures.names in
-    let same_text : found.text.now ≡ text = ap (λ (x : SearchedNames). x.text.now) e.rest ∙ c.new-found.ensures.text in
-    let is = c.bytes.ensures.value ∙ needle text _ _ _ (omega (arith, short)) c.new-needle.ensures c.add.ensures c.add-2.ensures in
-    let within = search_within rows.names.size c.args.table.count (pad64 (length text + 1)) (name_bytes cap) _ paid (section_within symbols f.store.now rows.section f.loaded.size _ cap 24 _ _ s.kind refl refl s.table) in
-    let cost = ap (λ (t : List ℕ). c.args.table.count * (24 + pad64 (length t + 1))) same_text in
-    ListingCalls-after _ _ _ _ _ _ _ _ _ (omega (arith, within, size, cost)) e.fetches c.list_rows.ensures (λ file held.
+    let within = search_within rows.names.size c.args.table.count (length text + 1) (name_bytes cap) _ paid (section_within symbols f.store.now rows.section f.loaded.size _ cap 24 _ _ s.kind refl refl s.table) in
+    ListingCalls-after _ _ _ _ _ _ _ _ _ (omega (arith, within, size)) e.fetches c.list_rows.ensures (λ file held.
     let belongs = c.args.listing.now.loaded.belongs file held in
     let at = section_at file rows.section in
     let style = style_of c.args.listing.now.style in
     let kind = s.typed file belongs in
     let pass = symbols-pass file at _ (sym (s.held file belongs)) in
-    let searched = subst (λ (n : StringTableRange). IsSearched (strings_in file n) (found.text.now ++ 0 ∷ []) found.ended found.marks) c.new-found.ensures.names
-    (subst (λ (b : List ℕ). IsSearched (strings_in file c.new-found.result.names) b found.ended found.marks) (is ∙ ap (λ (t : List ℕ). t ++ 0 ∷ []) (sym same_text)) (e.finds file held)) in
+    let needle = ap (λ (x : SearchedNames). x.needle.now) e.rest in
+    let searched = subst (λ (n : StringTableRange). IsSearched (strings_in file n) found.needle.now found.ended found.marks) c.new-found.ensures.names
+    (subst (λ (b : List ℕ). IsSearched (strings_in file c.new-found.result.names) b found.ended found.marks) (sym needle) (e.finds file held)) in
     rw (← e.fetches.1)
     (WroteSome-as _ _ _ (table_passes symbols file style rows.section at kind pass.0 ∙ ap (each (symbol_row file style rows.section at) 0) (sym pass.1.counted))
     (rw same_style at (c.list_rows.ensures.shows file (e.fetches.2.reads.keeps.same_file ∙ held) (λ some. (

@@ -21,13 +21,13 @@ returns-in_err-finds_name-clause-lists g c =
     let w = c.requires.row.within in
     let style = c.args.listing.now.style in
     let section = c.args.self.now.symbols.section in
-    let text = c.args.self.now.found.now.text.now in
+    let text = c.args.self.now.text.now in
     rw (p.1, p.2) (ListingCalls-unread _ _ _ _ _ _ (omega arith) c.in_err-finds_name.ensures.fetches (λ file held place of_kind row.
     let at = c.args.row.now.at in
     let decoded = c.decode-symbol.ensures.is_at file at (c.whole.ensures ∙ row.bytes) in
     let here : at ≡ sh_offset file (section_at file section) + c.args.row.now.index * 24 = omega (arith, of_kind.1.1, row.here) in
     let table = ap (strings_in file) w.2 ∙ of_kind.1.0 in
-    let searched = subst (λ (n : StringTableRange). IsSearched (strings_in file n) (text ++ 0 ∷ []) c.args.self.now.found.now.ended c.args.self.now.found.now.marks) (sym w.2) of_kind.0 in
+    let searched = subst (λ (n : StringTableRange). IsSearched (strings_in file n) c.args.self.now.found.now.needle.now c.args.self.now.found.now.ended c.args.self.now.found.now.marks) (sym w.2) of_kind.0 in
     rw (symbol_row_is (g.V.NameVersions.lookup c.args._versions.now) file (style_of style) _ _ _ _ _ _ refl table (c.from-off.ensures ∙ decoded.st_name) here, c.in_err-finds_name.ensures.fetches.1)
     (WroteUntilStop-unnamed _ (symbol_choice file (style_of style) (section_at file section) at) _ _ _ [] _ _ (c.in_err-finds_name.ensures.finds file held searched))))
 
@@ -36,14 +36,14 @@ returns-then-not-branch-clause-lists g c =
     let w = c.requires.row.within in
     let style = c.args.listing.now.style in
     let section = c.args.self.now.symbols.section in
-    let text = c.args.self.now.found.now.text.now in
+    let text = c.args.self.now.text.now in
     let fetches = c.in_ok-finds_name.ensures.fetches in
     ListingCalls-hidden _ _ _ _ _ _ (omega arith) fetches (λ file held place of_kind row.
     let at = c.args.row.now.at in
     let decoded = c.decode-symbol.ensures.is_at file at (c.whole.ensures ∙ row.bytes) in
     let here : at ≡ sh_offset file (section_at file section) + c.args.row.now.index * 24 = omega (arith, of_kind.1.1, row.here) in
     let table = ap (strings_in file) w.2 ∙ of_kind.1.0 in
-    let searched = subst (λ (n : StringTableRange). IsSearched (strings_in file n) (text ++ 0 ∷ []) c.args.self.now.found.now.ended c.args.self.now.found.now.marks) (sym w.2) of_kind.0 in
+    let searched = subst (λ (n : StringTableRange). IsSearched (strings_in file n) c.args.self.now.found.now.needle.now c.args.self.now.found.now.ended c.args.self.now.found.now.marks) (sym w.2) of_kind.0 in
     let found = rw c.if-not-branch.true at (c.in_ok-finds_name.ensures.finds file held searched) in
     rw fetches.1
     (WroteSome-as {X = Unit {0}} _ _ (Ok tt)
@@ -56,14 +56,14 @@ returns-then-not-is_symbol_row_shown-clause-lists g c =
     let w = c.requires.row.within in
     let style = c.args.listing.now.style in
     let section = c.args.self.now.symbols.section in
-    let text = c.args.self.now.found.now.text.now in
+    let text = c.args.self.now.text.now in
     let fetches = c.in_ok-finds_name.ensures.fetches in
     ListingCalls-hidden _ _ _ _ _ _ (omega arith) fetches (λ file held place of_kind row.
     let at = c.args.row.now.at in
     let decoded = c.decode-symbol.ensures.is_at file at (c.whole.ensures ∙ row.bytes) in
     let here : at ≡ sh_offset file (section_at file section) + c.args.row.now.index * 24 = omega (arith, of_kind.1.1, row.here) in
     let table = ap (strings_in file) w.2 ∙ of_kind.1.0 in
-    let searched = subst (λ (n : StringTableRange). IsSearched (strings_in file n) (text ++ 0 ∷ []) c.args.self.now.found.now.ended c.args.self.now.found.now.marks) (sym w.2) of_kind.0 in
+    let searched = subst (λ (n : StringTableRange). IsSearched (strings_in file n) c.args.self.now.found.now.needle.now c.args.self.now.found.now.ended c.args.self.now.found.now.marks) (sym w.2) of_kind.0 in
     let found = rw c.if-not-branch.false at (c.in_ok-finds_name.ensures.finds file held searched) in
     let named = c.in_ok-finds_name.ensures.named (ap (λ b. Ok b) c.if-not-branch.false) in
     let read = found ∙ ap (λ (n : List ℕ). Ok (ShownWhole n)) (sym named) in
@@ -80,14 +80,14 @@ returns-clause-lists g c =
     let w = c.requires.row.within in
     let style = c.args.listing.now.style in
     let section = c.args.self.now.symbols.section in
-    let text = c.args.self.now.found.now.text.now in
+    let text = c.args.self.now.text.now in
     let fetches = c.in_ok-finds_name.ensures.fetches in
     ListingCalls-named _ _ _ _ _ _ _ _ (omega arith) fetches c.suffixed_line.ensures (λ file held place of_kind row.
     let at = c.args.row.now.at in
     let decoded = c.decode-symbol.ensures.is_at file at (c.whole.ensures ∙ row.bytes) in
     let here : at ≡ sh_offset file (section_at file section) + c.args.row.now.index * 24 = omega (arith, of_kind.1.1, row.here) in
     let table = ap (strings_in file) w.2 ∙ of_kind.1.0 in
-    let searched = subst (λ (n : StringTableRange). IsSearched (strings_in file n) (text ++ 0 ∷ []) c.args.self.now.found.now.ended c.args.self.now.found.now.marks) (sym w.2) of_kind.0 in
+    let searched = subst (λ (n : StringTableRange). IsSearched (strings_in file n) c.args.self.now.found.now.needle.now c.args.self.now.found.now.ended c.args.self.now.found.now.marks) (sym w.2) of_kind.0 in
     let found = rw c.if-not-branch.false at (c.in_ok-finds_name.ensures.finds file held searched) in
     let named = c.in_ok-finds_name.ensures.named (ap (λ b. Ok b) c.if-not-branch.false) in
     let read = found ∙ ap (λ (n : List ℕ). Ok (ShownWhole n)) (sym named) in

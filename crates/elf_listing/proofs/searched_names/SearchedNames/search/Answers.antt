@@ -15,7 +15,7 @@ pub loop-done-preserved : goal.loop-done-preserved
 loop-done-preserved g c =
     let i = c.loop-done.invariant in
     let names = c.args.self.now.names in
-    let needle = c.args.needle.now in
+    let needle = c.args.self.now.needle.now in
     let done = c.loop-done.done in
     let old = c.loop-done.window in
     let new = c.fill_buf.new.self in
@@ -60,7 +60,7 @@ pub returns-clause-searches : goal.returns-clause-searches
 returns-clause-searches g c =
     let i = c.loop-done.invariant in
     let names = c.args.self.now.names in
-    let needle = c.args.needle.now in
+    let needle = c.args.self.now.needle.now in
     let done = c.loop-done.done in
     let window = c.loop-done.window in
     CallDid-of i.went.reads tt (λ file h.

@@ -16,10 +16,10 @@ invariant-loop-done g l =
       page : l.window.page ≡ 4096;
       end : range_end l.window ≡ names.at + names.size;
       begun : l.done ≡ 0 → l.self.ended ≡ 0 × (length l.window.held ≡ 0);
-      kept : 0 < l.done → length l.window.held + 1 ≡ length l.needle;
+      kept : 0 < l.done → length l.window.held + 1 ≡ length l.fn.self.needle.now;
       went : ReadsThroughWindow {X = Unit {0}} g.S.Source.one_read l.fn.src l.src first l.window (Ok tt);
       holds : (file : List ℕ) → l.fn.src.seen.file ≡ Some file → HoldsBytes file l.window;
-      marked : (file : List ℕ) → l.fn.src.seen.file ≡ Some file → (k : ℕ) → k < l.done → OccursAt (strings_in file names) l.needle k → IsMarked l.self.marks k;
+      marked : (file : List ℕ) → l.fn.src.seen.file ≡ Some file → (k : ℕ) → k < l.done → OccursAt (strings_in file names) l.fn.self.needle.now k → IsMarked l.self.marks k;
       ends : (file : List ℕ) → l.fn.src.seen.file ≡ Some file → EndsNames (strings_in file names) l.self.ended (l.done + length l.window.held);
     }
 
