@@ -1,5 +1,5 @@
 -- What a search of a string table implies for the name at an index.
-use Rattle.std.proofs.Common.{◌≡◌, ◌≢◌, ℕ, zero, suc, ◌+◌, ◌-◌, ◌<◌, ◌≤◌, ◌==◌, ◌%◌, not, Bool, true, false, List, [], ◌∷◌, ◌++◌, length, get_or, take, drop, IfErr, IfOk, MatchBool, Option, None, Some, Result, Ok, Err, ◌⊎◌, inl, inr, refl, sym, ap, subst, ◌∙◌, arith, length-append, length-take, length-drop, get_or-take, get_or-drop}
+use Rattle.std.proofs.Common.{◌≡◌, ◌≢◌, ℕ, zero, suc, ◌+◌, ◌-◌, ◌<◌, ◌≤◌, ◌==◌, not, Bool, true, false, List, [], ◌∷◌, ◌++◌, length, get_or, take, drop, IfErr, IfOk, MatchBool, Option, None, Some, Result, Ok, Err, ◌⊎◌, inl, inr, refl, sym, ap, subst, ◌∙◌, arith, length-append, length-take, length-drop, get_or-take, get_or-drop}
 use Rattle.std.proofs.lemmas.List.{drop_all, take_all, take_at}
 use Rattle.std.proofs.lemmas.List.Sums.{prefix_len_passes}
 use Rattle.std.proofs.lemmas.Bool.{cases_lt}
@@ -16,7 +16,7 @@ use Rattle.elf_model.proofs.Slices.{slice-slice}
 use Rattle.elf_table.specs.Faults.{IsOfRead}
 use Rattle.elf_table.specs.declared.fault.Fault.{Fault}
 use Rattle.elf_table.specs.declared.fault.Fault.TheVariants.{Refused, Source}
-use Rattle.elf_listing.specs.SearchedNames.{EndsNames, FindsName, IsLastNul, IsMarked, IsOther, IsSearched, KeepsMarks}
+use Rattle.elf_listing.specs.SearchedNames.{EndsAfterNul, FindsSoleName, IsLastNul, IsMarked, IsOther, IsSearched, KeepsMarks}
 use Rattle.elf_table.proofs.Pieces.{byte-of_file}
 
 -- A SEARCH GOES ON in the rest of a piece
@@ -82,8 +82,8 @@ module _ (file piece : List ℕ) (at size done n : ℕ) (here : piece ≡ slice 
           subst (λ (x : ℕ). IsMarked new x) place (sets (k - done) (occurs-here needle (k - done) (omega (arith, counted, below, h)) there))
 
   -- where names end, after one more piece
-  pub ends-more : (ended new seen : ℕ) → EndsNames (slice file at size) ended seen → done ≤ seen → seen ≤ done + n → IsLastNul piece done ended new
-      → EndsNames (slice file at size) new (done + n)
+  pub ends-more : (ended new seen : ℕ) → EndsAfterNul (slice file at size) ended seen → done ≤ seen → seen ≤ done + n → IsLastNul piece done ended new
+      → EndsAfterNul (slice file at size) new (done + n)
   ends-more ended new seen ends low high last = go last.0 last.1 last.2
     where
       byte : (index : ℕ) → done ≤ index → index < done + n → get_or (slice file at size) index 0 ≡ get_or piece (index - done) 0
@@ -96,7 +96,7 @@ module _ (file piece : List ℕ) (at size done n : ℕ) (here : piece ≡ slice 
       is : (b : ℕ) → (b == 0) ≡ true → b ≡ 0
       is b tests = grind (arith, nat_tests)
 
-      go : (last : Option ℕ) → IsLastByte (is_byte 0) piece last → new ≡ elim last [ None ↦ ended | Some k ↦ done + k + 1 ] → EndsNames (slice file at size) new (done + n)
+      go : (last : Option ℕ) → IsLastByte (is_byte 0) piece last → new ≡ elim last [ None ↦ ended | Some k ↦ done + k + 1 ] → EndsAfterNul (slice file at size) new (done + n)
       go None nowhere same = record {
         below = omega (arith, same, ends.below, high);
         none_after = λ index from below nul.
@@ -117,7 +117,7 @@ module _ (file piece : List ℕ) (at size done n : ℕ) (here : piece ≡ slice 
       }
 
 -- before the first piece
-pub ends-none : (table : List ℕ) → EndsNames table 0 0
+pub ends-none : (table : List ℕ) → EndsAfterNul table 0 0
 ends-none table = record { below = omega arith; none_after = λ index from below nul. absurd (omega (arith, below)); nul_before = λ last e. absurd (omega (arith, e)) }
 
 -- so many bytes, and more after them
@@ -210,7 +210,7 @@ module _ (table text : List ℕ) (off cap ended : ℕ) (marks : List Bool) (whol
 
     -- the bytes there say whether it is the one
     pub compared-finds : (at : ℕ) (result : Result Bool Fault) (bytes wanted : List ℕ) → bytes ≡ slice table off (length (text ++ 0 ∷ [])) → wanted ≡ text ++ 0 ∷ []
-        → IfOk result (λ same. MatchBool same (bytes ≡ wanted) (bytes ≢ wanted)) → IfErr result IsOfRead → FindsName at result (shown table off cap) text
+        → IfOk result (λ same. MatchBool same (bytes ≡ wanted) (bytes ≢ wanted)) → IfErr result IsOfRead → FindsSoleName at result (shown table off cap) text
     compared-finds at (Ok true) bytes wanted here is same read = same-is-whole (sym here ∙ same ∙ is)
     compared-finds at (Ok false) bytes wanted here is differs read = is-other (λ named. differs (here ∙ named.1 ∙ sym is))
     compared-finds at (Err (Source fault place)) bytes wanted here is same read = tt

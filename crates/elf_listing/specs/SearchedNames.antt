@@ -25,7 +25,7 @@ IsLastNul piece start before after = (last : Option ℕ) × (IsLastByte (is_byte
 
 -- NAMES END before an index: of the first bytes of a table, as many as `seen`, none from there on is
 -- a NUL, and the one before it is
-pub record EndsNames (table : List ℕ) (ended seen : ℕ) : Type 0 where
+pub record EndsAfterNul (table : List ℕ) (ended seen : ℕ) : Type 0 where
   pub below : ended ≤ seen
   pub none_after : (index : ℕ) → ended ≤ index → index < seen → slice_index table index ≢ 0
   pub nul_before : (last : ℕ) → ended ≡ last + 1 → slice_index table last ≡ 0
@@ -33,7 +33,7 @@ pub record EndsNames (table : List ℕ) (ended seen : ℕ) : Type 0 where
 -- A TABLE WAS SEARCHED for some bytes: each index where they are is marked
 pub record IsSearched (table needle : List ℕ) (ended : ℕ) (marks : List Bool) : Type 0 where
   pub marked : (index : ℕ) → OccursAt table needle index → IsMarked marks index
-  pub ends : EndsNames table ended (length table)
+  pub ends : EndsAfterNul table ended (length table)
 
 -- whether the name that is shown is this one, or why there is none
 pub record IsOther (answer : Result DisplayedName Cause) (text : List ℕ) : Type 0 where
@@ -41,7 +41,7 @@ pub record IsOther (answer : Result DisplayedName Cause) (text : List ℕ) : Typ
   pub is : answer ≡ Ok name
   pub other : name ≢ ShownWhole text
 
-abbrev pub FindsName : (at : ℕ) → Result Bool Fault → Result DisplayedName Cause → (text : List ℕ) → Type 0
-FindsName at (Ok true) answer text = answer ≡ Ok (ShownWhole text)
-FindsName at (Ok false) answer text = IsOther answer text
-FindsName at (Err fault) answer text = Refuses at fault answer
+abbrev pub FindsSoleName : (at : ℕ) → Result Bool Fault → Result DisplayedName Cause → (text : List ℕ) → Type 0
+FindsSoleName at (Ok true) answer text = answer ≡ Ok (ShownWhole text)
+FindsSoleName at (Ok false) answer text = IsOther answer text
+FindsSoleName at (Err fault) answer text = Refuses at fault answer

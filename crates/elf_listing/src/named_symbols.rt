@@ -26,7 +26,7 @@ const WHOLE: NameLimit = NameLimit { bytes: 4096 };
 /// The symbols of a section, of which those with one name are shown, and the string table, in which
 /// that was searched for.
 #[derive(Drop)]
-pub(crate) struct NamedSymbols<'r, 't> {
+pub(crate) struct SymbolsOfName<'r, 't> {
     /// The symbols.
     pub(crate) symbols: Symbols,
     /// The name.
@@ -35,7 +35,7 @@ pub(crate) struct NamedSymbols<'r, 't> {
     pub(crate) found: &'r SearchedNames<'r>,
 }
 
-impl TableRows for NamedSymbols<'_, '_> {
+impl TableRows for SymbolsOfName<'_, '_> {
     ghost layout = { named_layout };
 
     ghost suits = { λ rows style. IsSoleName style rows.text.now };
@@ -112,7 +112,7 @@ pub(crate) fn list_named<S: Source, W: Sink>(
     needle.add(&[0], WHOLE);
     let mut found = SearchedNames::new(rows.names, needle.bytes());
     listing.search_names(&mut found)?;
-    let named = NamedSymbols {
+    let named = SymbolsOfName {
         symbols: *rows,
         text,
         found: &found,

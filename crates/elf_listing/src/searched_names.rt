@@ -4,7 +4,7 @@ ghost use Rattle.memchr.specs.Find.{OccursAt};
 ghost use Rattle.elf_model.specs.Prelude.{nul_in, shown, slice};
 ghost use Rattle.elf_table.specs.Faults.{IsOfRead};
 ghost use Rattle.elf_table.specs.Ledger.{CallDid, fault_of_result};
-ghost use Rattle.elf_listing.specs.SearchedNames.{FindsName, IsLastNul, IsMarked, IsSearched, KeepsMarks};
+ghost use Rattle.elf_listing.specs.SearchedNames.{FindsSoleName, IsLastNul, IsMarked, IsSearched, KeepsMarks};
 ghost use Rattle.elf_table.specs.Tables.{StringsInBounds, strings_in};
 
 use elf_record::Cause;
@@ -105,7 +105,7 @@ impl<'t> SearchedNames<'t> {
             (λ file. (text : List ℕ) → self.now.needle.now ≡ text ++ 0 ∷ [] →
             nul_in text ≡ None → length text ≤ cap.bytes →
             IsSearched (strings_in file self.now.names) self.now.needle.now
-            self.now.ended self.now.marks → FindsName at result
+            self.now.ended self.now.marks → FindsSoleName at result
             (shown (strings_in file self.now.names) off cap.bytes) text) }
     {
         let size = self.names.size();
@@ -143,7 +143,7 @@ fn has_bytes<S: Source>(src: &mut Counted<S>, at: u64, wanted: &[u8]) -> Result<
     while done < wanted.len() {
         let count = (wanted.len() - done).min(CHUNK);
         fill(src, at + done as u64, &mut chunk[..count])?;
-        if !is_same(&chunk[..count], &wanted[done..done + count]) {
+        if !is_equal(&chunk[..count], &wanted[done..done + count]) {
             return Ok(false);
         }
         done += count;
@@ -152,7 +152,7 @@ fn has_bytes<S: Source>(src: &mut Counted<S>, at: u64, wanted: &[u8]) -> Result<
 }
 
 /// Returns `true` if some bytes are others.
-fn is_same(bytes: &[u8], others: &[u8]) -> bool
+fn is_equal(bytes: &[u8], others: &[u8]) -> bool
     ensures { MatchBool result (bytes.now ≡ others.now) (bytes.now ≢ others.now) }
 {
     bytes == others

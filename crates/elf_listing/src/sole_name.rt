@@ -2,7 +2,7 @@
 ghost use Rattle.std.specs.Prelude.{◌≡◌, ℕ, ◌+◌, ◌*◌, ◌<◌, ◌≤◌, ◌∷◌, ◌++◌, List, [], length, true, Ok, Some, IfErr, IfSome, OnOk};
 ghost use Rattle.elf_model.specs.Prelude.{name_bytes, shown};
 ghost use Rattle.elf_table.specs.Prelude.{IsOfRead, StringsInBounds, strings_in};
-ghost use Rattle.elf_listing.specs.SearchedNames.{FindsName, IsSearched};
+ghost use Rattle.elf_listing.specs.SearchedNames.{FindsSoleName, IsSearched};
 ghost use Rattle.elf_listing.specs.Shows.{ListingReads};
 ghost use Rattle.elf_listing.specs.SoleNames.{IsSoleName};
 
@@ -94,7 +94,7 @@ impl<S: Source, W: Sink> Listing<'_, '_, '_, '_, S, W> {
         ensures named { result ≡ Ok true → self.new.name ≡ text.now }
         ensures finds { (file : List ℕ) → self.old.src.now.seen.file ≡ Some file →
             IsSearched (strings_in file found.now.names) found.now.needle.now
-            found.now.ended found.now.marks → FindsName at result
+            found.now.ended found.now.marks → FindsSoleName at result
             (shown (strings_in file found.now.names) off self.old.style.cap.bytes) text.now }
     {
         let is_found = found.has(self.src, off, at, self.style.cap)?;

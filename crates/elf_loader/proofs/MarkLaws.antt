@@ -1,5 +1,5 @@
 -- The result for symbols, one after another.
-use Rattle.std.proofs.Common.{◌≡◌, ℕ, zero, suc, ◌+◌, ◌<◌, ◌==◌, ◌||◌, not, Bool, true, false, List, [], length, take, Result, Ok, Err, refl, sym, ap, subst, ◌∙◌, arith}
+use Rattle.std.proofs.Common.{◌≡◌, ℕ, zero, suc, ◌+◌, ◌<◌, ◌==◌, Bool, List, [], length, take, Result, Ok, Err, refl, sym, ap, subst, ◌∙◌, arith}
 use Rattle.elf_model.specs.Prelude.{Cut, DisplayedName, DynamicSymbols, SymbolTraitFlags, marked_by, marked_with_symbol, marks_from, shown, slice, st_name, st_shndx, symbol_offset}
 use Rattle.elf_model.proofs.NameLemmas.{View, is_cut, is_empty, is_outside, is_unended, is_whole, view}
 use Rattle.elf_model.specs.declared.causes.Cause.{Cause}

@@ -1,8 +1,8 @@
 -- The search and the rows cost no more than rows with names, and the rows are the symbols'.
-use Rattle.std.proofs.Common.{◌≡◌, ℕ, ◌+◌, ◌*◌, ◌≤◌, List, [], ◌∷◌, ◌++◌, length, length-append, length-take, take, refl, sym, ap, subst, ◌∙◌, arith, rules}
+use Rattle.std.proofs.Common.{◌≡◌, ℕ, ◌+◌, ◌≤◌, List, [], ◌∷◌, ◌++◌, length, length-append, length-take, take, refl, sym, ap, subst, ◌∙◌, arith, rules}
 use Rattle.std.proofs.lemmas.Result.{err_from_is_err_and}
 use Rattle.elf_options.specs.Permitted.{style_of}
-use Rattle.elf_model.specs.Prelude.{each, name_bytes, pad64, section_at, slice, symbol_row, symbols}
+use Rattle.elf_model.specs.Prelude.{each, name_bytes, section_at, slice, symbol_row, symbols}
 use Rattle.elf_table.specs.Prelude.{StringTableRange, strings_in}
 use Rattle.elf_table.proofs.RelocationLaws.{symbols-pass}
 use Rattle.elf_listing.specs.SearchedNames.{IsSearched}

@@ -1,7 +1,6 @@
 -- Each occurrence is marked when it is found, and there is none between two that are found.
-use Rattle.std.proofs.Common.{◌≡◌, ℕ, ◌+◌, ◌<◌, ◌≤◌, ◌⊎◌, inl, inr, sym, subst, arith}
+use Rattle.std.proofs.Common.{◌≡◌, ℕ, ◌+◌, inl, inr, sym, subst, arith}
 use Rattle.std.proofs.lemmas.Bool.{cases_lt}
-use Rattle.memchr.specs.Find.{OccursAt}
 use Rattle.elf_listing.specs.SearchedNames.{IsMarked}
 use Rattle.elf_listing.proofs.SearchedLaws.{found-fits, found-next, found-none}
 use Rattle.elf_listing.proofs.searched_names.mark_all.Goals as goal

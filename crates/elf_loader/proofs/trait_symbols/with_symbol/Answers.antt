@@ -1,6 +1,6 @@
 -- A name that adds no trait and has no fault is not read.
-use Rattle.std.proofs.Common.{◌≡◌, ◌==◌, ℕ, Bool, length, refl, sym, ap, subst, ◌∙◌, arith}
-use Rattle.elf_model.specs.Prelude.{st_name, st_shndx}
+use Rattle.std.proofs.Common.{◌≡◌, ◌==◌, ℕ, length, subst, arith}
+use Rattle.elf_model.specs.Prelude.{st_shndx}
 use Rattle.elf_model.proofs.Slices.{slice-size}
 use Rattle.elf_table.specs.Prelude.{strings_in}
 use Rattle.elf_loader.specs.Marks.{AddsNone, symbol_traits_of}

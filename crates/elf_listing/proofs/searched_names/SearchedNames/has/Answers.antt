@@ -1,10 +1,10 @@
 -- The name at an index is known without a read, or its bytes are compared.
-use Rattle.std.proofs.Common.{◌≡◌, ℕ, ◌+◌, ◌<◌, ◌≤◌, List, [], ◌∷◌, ◌++◌, length, MatchBool, Ok, refl, sym, ap, subst, ◌∙◌, arith, rules}
+use Rattle.std.proofs.Common.{◌≡◌, ℕ, ◌+◌, List, length, refl, sym, ap, ◌∙◌, arith, rules}
 use Rattle.elf_model.specs.Prelude.{slice}
 use Rattle.elf_model.proofs.Searches.{shown-past}
 use Rattle.elf_model.proofs.Slices.{slice-size, slice-slice}
 use Rattle.elf_table.specs.Tables.{strings_in}
-use Rattle.elf_table.proofs.LedgerLaws.{CallDid-as, CallDid-of}
+use Rattle.elf_table.proofs.LedgerLaws.{CallDid-of}
 use Rattle.elf_listing.proofs.SearchedLaws.{compared-finds, open-is-unended, over-is-other, short-is-other, unmarked-is-other}
 use Rattle.elf_listing.proofs.searched_names.SearchedNames.has.Goals as goal
 use Rattle.elf_listing.proofs.searched_names.SearchedNames.has.Goals.{then-not-is_marked-via-then-not-is_marked, then-not-is_marked-via-else-not-is_marked+then-self-size}

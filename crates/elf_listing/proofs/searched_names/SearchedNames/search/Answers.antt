@@ -1,10 +1,10 @@
 -- Each piece is marked, and the window keeps so many bytes of it that no occurrence is missed.
-use Rattle.std.proofs.Common.{◌≡◌, ℕ, ◌+◌, ◌-◌, ◌<◌, ◌≤◌, List, length, drop, Some, inl, inr, refl, sym, ap, subst, ◌∙◌, arith, length-drop}
+use Rattle.std.proofs.Common.{◌≡◌, ℕ, ◌+◌, ◌-◌, ◌<◌, ◌≤◌, List, length, Some, inl, inr, refl, sym, ap, subst, ◌∙◌, arith, length-drop}
 use Rattle.std.proofs.lemmas.Bool.{cases_lt}
 use Rattle.elf_model.specs.Prelude.{slice}
 use Rattle.elf_model.proofs.Slices.{slice-size}
 use Rattle.elf_table.specs.Tables.{strings_in}
-use Rattle.elf_listing.specs.SearchedNames.{EndsNames}
+use Rattle.elf_listing.specs.SearchedNames.{EndsAfterNul}
 use Rattle.elf_listing.specs.declared.searched_names.SearchedNames.{SearchedNames}
 use Rattle.elf_table.proofs.LedgerLaws.{CallDid-of}
 use Rattle.elf_listing.proofs.SearchedLaws.{ends-more, marks-all, marks-more}
@@ -53,7 +53,7 @@ loop-done-preserved g c =
       ends = λ file h.
           let more = ends-more file piece names.at names.size done n (here file h) refl inside c.loop-done.self.ended c.ended_in-self.result (done + length old.held) (i.ends file h) (omega arith)
           (omega (arith, short, long, front)) c.ended_in-self.ensures in
-          subst (λ (x : ℕ). EndsNames (strings_in file names) c.ended_in-self.result x) (omega (arith, held, long, front)) more;
+          subst (λ (x : ℕ). EndsAfterNul (strings_in file names) c.ended_in-self.result x) (omega (arith, held, long, front)) more;
     }
 
 pub returns-clause-searches : goal.returns-clause-searches
@@ -77,5 +77,5 @@ returns-clause-searches g c =
     let place = i.place in
     record {
       marked = marks-all (strings_in file names) needle c.loop-done.self.marks done (omega (arith, long, size, last)) (i.marked file h);
-      ends = subst (λ (x : ℕ). EndsNames (strings_in file names) c.loop-done.self.ended x) (omega (arith, long, size, last, kept, end, place)) (i.ends file h);
+      ends = subst (λ (x : ℕ). EndsAfterNul (strings_in file names) c.loop-done.self.ended x) (omega (arith, long, size, last, kept, end, place)) (i.ends file h);
     })

@@ -2,7 +2,7 @@
 use Rattle.std.proofs.Common.{◌≡◌, ℕ, ◌+◌, ◌-◌, ◌<◌, ◌≤◌, List, [], length, Some, Ok}
 use Rattle.memchr.specs.Find.{OccursAt}
 use Rattle.elf_table.specs.Prelude.{HoldsBytes, ReadsThroughWindow, WindowState, range_end, strings_in}
-use Rattle.elf_listing.specs.SearchedNames.{EndsNames, IsMarked}
+use Rattle.elf_listing.specs.SearchedNames.{EndsAfterNul, IsMarked}
 use Rattle.elf_listing.proofs.searched_names.SearchedNames.search.Given as goal
 
 abbrev pub invariant-loop-done : goal.invariant-loop-done
@@ -20,7 +20,7 @@ invariant-loop-done g l =
       went : ReadsThroughWindow {X = Unit {0}} g.S.Source.one_read l.fn.src l.src first l.window (Ok tt);
       holds : (file : List ℕ) → l.fn.src.seen.file ≡ Some file → HoldsBytes file l.window;
       marked : (file : List ℕ) → l.fn.src.seen.file ≡ Some file → (k : ℕ) → k < l.done → OccursAt (strings_in file names) l.fn.self.needle.now k → IsMarked l.self.marks k;
-      ends : (file : List ℕ) → l.fn.src.seen.file ≡ Some file → EndsNames (strings_in file names) l.self.ended (l.done + length l.window.held);
+      ends : (file : List ℕ) → l.fn.src.seen.file ≡ Some file → EndsAfterNul (strings_in file names) l.self.ended (l.done + length l.window.held);
     }
 
 abbrev pub decreases-loop-done : goal.decreases-loop-done

@@ -1,8 +1,8 @@
 -- A name that is not the one has no row, and the one is shown as if it had been read.
-use Rattle.std.proofs.Common.{◌≡◌, ℕ, ◌+◌, ◌*◌, ◌==◌, not, true, false, List, [], ◌∷◌, ◌++◌, None, Ok, refl, sym, ap, subst, ◌∙◌, arith}
+use Rattle.std.proofs.Common.{◌≡◌, ℕ, ◌+◌, ◌*◌, ◌==◌, not, List, [], None, Ok, refl, sym, ap, subst, ◌∙◌, arith}
 use Rattle.std.proofs.lemmas.Result.{err_from_is_err_and}
 use Rattle.elf_options.specs.Permitted.{style_of}
-use Rattle.elf_model.specs.Prelude.{DisplayedName, section_at, sh_offset, symbol_choice}
+use Rattle.elf_model.specs.Prelude.{section_at, sh_offset, symbol_choice}
 use Rattle.elf_model.specs.Names.DisplayedName.{Whole as ShownWhole}
 use Rattle.elf_table.specs.Prelude.{StringTableRange, strings_in}
 use Rattle.elf_table.specs.declared.names.NameEnd.TheVariants.{Whole}
@@ -13,7 +13,7 @@ use Rattle.elf_listing.proofs.SoleLaws.{other-hidden, sole-hidden}
 use Rattle.elf_listing.proofs.ListsLaws.{ListingCalls-hidden, ListingCalls-named, ListingCalls-unread}
 use Rattle.elf_listing.proofs.ShowLaws.{Whole-none}
 use Rattle.elf_listing.proofs.SuffixShown.{WroteUntilStop-unnamed, suffixed-hidden, suffixed-shown, symbol_row_is}
-use Rattle.elf_listing.proofs.named_symbols.NamedSymbolsTableRows.row.Goals as goal
+use Rattle.elf_listing.proofs.named_symbols.SymbolsOfNameTableRows.row.Goals as goal
 
 pub returns-in_err-finds_name-clause-lists : goal.returns-in_err-finds_name-clause-lists
 returns-in_err-finds_name-clause-lists g c =
