@@ -10,12 +10,14 @@ must be what is left of the listing with `--names M` without the lines of other 
 bytes of the longest name, with the same status and the same refusal after it; also within a read budget
 and with `--json`. The same for the archives there, whose members have their lines. With `--versions` symbols
 and relocation entries are listed by names alone, with a version, with a default one, and with a prefix of
-one; M is then no less than 256. The symbols that `--defined`, `--undefined` and `--dynamic` show, alone, together
+one; M is then no less than 256. Files are made whose string tables are longer than what is read at once, with
+the name at every place of two pieces, within others, and at the end without a NUL: their rows of one name
+must be those among all rows too. The symbols that `--defined`, `--undefined` and `--dynamic` show, alone, together
 and with a name, must be those of the listing whose column says so, or whose section is a dynamic symbol table;
 relocation entries are all shown. With `--quick` only some files are used. Lists with odd lines come next: which names
 they have, and which are refused. Then a
-file of 300,000 symbols is made: one of its names may take no longer than all rows do, and 10,000 names at
-most three times what one takes. It needs Python 3. The last line is `N passed, N failed`."""
+file of 300,000 symbols is made: one of its names may take no longer than half of what all rows take, and 10,000
+names at most three times what two take. It needs Python 3. The last line is `N passed, N failed`."""
 
 import glob
 import json
@@ -290,10 +292,18 @@ def try_lists(program):
 
 def made(count):
     """An ELF file with a table of a given number of symbols, of names that are all different."""
-    names, symbols = bytearray(1), bytearray(24)
+    names, offsets = bytearray(1), [0]
     for i in range(1, count):
-        symbols += struct.pack("<IBBHQQ", len(names), 0x12, 0, 0xFFF1, i, 1)
+        offsets.append(len(names))
         names += b"symbol_%d\0" % i
+    return made_of(names, offsets)
+
+
+def made_of(names, offsets):
+    """An ELF file with this string table, and symbols whose names are at these offsets."""
+    symbols = bytearray(24)
+    for i, off in enumerate(offsets[1:], 1):
+        symbols += struct.pack("<IBBHQQ", off, 0x12, 0, 0xFFF1, i, 1)
     symbols_at, strings_at = 64, 64 + len(symbols)
     sections_at = strings_at + len(names)
     header = b"\x7fELF\x02\x01\x01" + bytes(9)
@@ -302,6 +312,46 @@ def made(count):
     sections += struct.pack("<IIQQQQIIQQ", 0, 2, 0, 0, symbols_at, len(symbols), 2, 1, 8, 24)
     sections += struct.pack("<IIQQQQIIQQ", 0, 3, 0, 0, strings_at, len(names), 0, 0, 1, 0)
     return bytes(header + symbols + names + sections)
+
+
+def compare_made(program, folder, told, names, offsets, wanted):
+    """Compares the rows of one name of a file that is made with those among all its rows."""
+    path = os.path.join(folder, "made")
+    with open(path, "wb") as file:
+        file.write(made_of(names, offsets))
+    for beside in ([], ["--defined"], ["--json"]):
+        lines, status = listed(program, path, ("symbols",), "--names", str(len(wanted)), *beside)
+        rows, ended = listed(program, path, ("symbols",), "--name", wanted.decode(), *beside)
+        wrong = rows != [line for line in lines if is_kept(line, [wanted])] and f"{len(rows)} lines of {len(lines)}"
+        check(f"{told} {' '.join(beside)}", wrong or (ended != status and f"status {ended} for {status}"))
+
+
+def try_places(program):
+    """One name in string tables of several pieces of 4,096 bytes, of which each begins with the end of the one before it."""
+    chance = random.Random(4096)
+    with tempfile.TemporaryDirectory() as folder:
+        for wanted in (b"main", b"a" * 40):
+            for piece in (4096, 8192 - len(wanted)):
+                for at in range(piece - len(wanted) - 2, piece + 3):
+                    names = bytearray(9000)
+                    names[at : at + len(wanted)] = wanted
+                    # With those whose mark is the same, and those one byte before and after.
+                    offsets = [0] * 700 + [at, at - 4096, at + 1, at - 1, at % 4096, 8999]
+                    compare_made(program, folder, f"{wanted[:4]} at {at}", names, offsets, wanted)
+        for size in (5, 6, 4095, 4096, 4097, 8187, 8188, 8189, 12_000):
+            for ending in (b"main\0", b"main", b"mai", b"domain\0x", b"x" * 5, b"x" * 4):
+                names = bytearray(size)
+                names[size - min(size, len(ending)) :] = ending[-size:]
+                offsets = [0] * 900 + list(range(max(0, size - 12), size))
+                for last in ([], [size], [size + 1]):
+                    compare_made(program, folder, f"{ending} at the end of {size} bytes, {last}", names, offsets + last, b"main")
+        for case in range(200):
+            pieces = [b"main", b"main\0", b"domain\0", b"ma", b"in\0", b"\0", b"n" * 70]
+            names = b"".join(chance.choice(pieces) for _ in range(chance.choice((3, 40, 1500, 3000))))
+            names += chance.choice((b"", b"\0"))
+            offsets = [0] + [chance.randrange(len(names)) for _ in range(chance.choice((5, 200, 900)))]
+            offsets += chance.choice(([], [], [len(names) - 1], [len(names)]))
+            compare_made(program, folder, f"random names {case}", names, offsets, chance.choice((b"main", b"domain", b"in", b"n" * 70)))
 
 
 def processor(words):
@@ -327,10 +377,12 @@ def measure(program):
         with open(names, "wb") as file:
             file.write(b"".join(b"symbol_%d\n" % (i * 29) for i in range(1, 10_001)))
         show = [program, "show", "--only", "symbols"]
-        every, one, many = seconds([*show, path], [*show, "--name", "symbol_299999", path], [*show, "--name-list", names, path])
-    print(f"300,000 symbols: all {every:.3f} s, by one name {one:.3f} s, by 10,000 names {many:.3f} s", flush=True)
-    check("one name takes no longer than all rows", one > every * 1.1 and f"{one:.3f} s")
-    check("10,000 names take no more than three times one", many > one * 3 and f"{many:.3f} s")
+        two = [*show, "--name", "symbol_299999", "--name", "symbol_299998", path]
+        every, one, both, many = seconds([*show, path], [*show, "--name", "symbol_299999", path], two, [*show, "--name-list", names, path])
+    print(f"300,000 symbols: all {every:.3f} s, by one name {one:.3f} s, by two {both:.3f} s, by 10,000 {many:.3f} s", flush=True)
+    check("one name takes no longer than half of all rows", one > every * 0.5 and f"{one:.3f} s")
+    check("two names take no longer than all rows", both > every * 1.1 and f"{both:.3f} s")
+    check("10,000 names take no more than three times two", many > both * 3 and f"{many:.3f} s")
 
 
 def main():
@@ -351,6 +403,7 @@ def main():
         compare_filters(program, path, chance)
     try_filters(program)
     try_lists(program)
+    try_places(program)
     measure(program)
     return counts.end()
 

@@ -388,6 +388,27 @@ class Cases:
         rows = [len(row) + 1 for row in rows]
         check("6,000 symbols in a table: writes", first_difference(filled_rows(rows, [len(columns), 1]), run.writes))
 
+    def one_name(self):
+        """One of 6,000 names: their string table is read once, each piece with the end of the one before it, and
+        then the names whose mark is its, which are a multiple of 4,096 bytes away."""
+        strings = b"\0" + b"".join(b"name_%04d\0" % number for number in range(6000))
+        symbols = b"".join(symbol(1 + 10 * number) for number in range(6000))
+        path = made(self.folder, "one_name",
+                    [section(2, FAR, len(symbols), link=2, entry=24), section(3, FARTHER, len(strings))],
+                    {FAR: symbols, FARTHER: strings})
+        run, length = self.run("one of 6,000 names", path, "show", "--only", "symbols", "--name", "name_4321", path), os.path.getsize(path)
+        asked, end = [(FARTHER, PAGE)], PAGE
+        while end < len(strings):
+            asked.append((FARTHER + end, min(PAGE - 9, len(strings) - end)))
+            end += PAGE - 9
+        asked += [(FARTHER + 1 + 10 * number, 10) for number in (225, 2273, 4321)]
+        wanted = by_pages(asked, length)
+        check(f"one of 6,000 names: {len(wanted)} reads of names", first_difference(wanted, within(run.reads, FARTHER, len(strings))))
+        check("one of 6,000 names: a line", "" if run.text.endswith(b" name_4321\n") and run.text.count(b"\n") == 1 else repr(run.text[:200]))
+        run = self.run("one of 6,000 names, with a budget", path, "show", *BUDGET, "--only", "symbols", "--name", "name_4321", path)
+        read = sum(size for _, size in within(run.reads, FARTHER, len(strings)))
+        check("one of 6,000 names, with a budget: each is read, no byte twice", "" if read == len(strings) - 1 else str(read))
+
     def scattered_names(self):
         """18,000 symbols, whose names are in 9,000 pages, each in the page after that of the one before it."""
         strings = b"".join((b"\0name_%04d" % number).ljust(PAGE, b"\0") for number in range(9000))
@@ -618,7 +639,7 @@ def main():
             if platform.machine() != "x86_64":
                 raise Untraced
             for case in (cases.headers, cases.unopened, cases.tables, cases.notes, cases.names,
-                         cases.scattered_names, cases.few_addresses, cases.long_names, cases.sections, cases.lookups, cases.folders, cases.checks, cases.pieces, cases.archives, cases.needs, cases.failing_output):
+                         cases.one_name, cases.scattered_names, cases.few_addresses, cases.long_names, cases.sections, cases.lookups, cases.folders, cases.checks, cases.pieces, cases.archives, cases.needs, cases.failing_output):
                 case()
         except Untraced:
             print("skipped the counts of calls: this system lets no process trace another")

@@ -19,7 +19,11 @@ pub const VERSION_BYTES: usize = elf_note::NUMBER_NAMES_BYTES;
 
 /// The size in bytes of what [`crate::show`] also holds if versions follow the names of symbols:
 /// the location of the record that names each version index, and the bytes of a version's name.
-pub const SUFFIX_BYTES: usize = 8 * elf_note::ALL_PLACES + SUFFIX_NAME_BYTES;
+pub const SUFFIX_BYTES: usize = 8 * elf_note::ALL_PLACES + NAME_BYTES;
 
-/// The size in bytes of the buffer for a version's name.
-const SUFFIX_NAME_BYTES: usize = 4_096;
+/// The size in bytes of a buffer for one more name.
+const NAME_BYTES: usize = 4_096;
+
+/// The size in bytes of what [`crate::show`] also holds if it searches a string table for the only
+/// name that rows are selected by: the marks of where it is, and the name with its NUL.
+pub const SEARCH_BYTES: usize = crate::searched_names::MARKS + NAME_BYTES;

@@ -37,7 +37,7 @@ mod table_view;
 mod tables;
 mod version_records;
 
-pub use buffers::{FIXED_BYTES, SUFFIX_BYTES, VERSION_BYTES};
+pub use buffers::{FIXED_BYTES, SEARCH_BYTES, SUFFIX_BYTES, VERSION_BYTES};
 pub use elf_format::{cause_word, show_refusal, show_steps, show_symbol};
 pub use elf_table::RunFault;
 pub use fault_line::show_stop;

@@ -17,7 +17,7 @@ use memchr::memrchr;
 const CHUNK: usize = 64;
 
 /// How many marks there are.
-const MARKS: usize = 4096;
+pub(crate) const MARKS: usize = 4096;
 
 /// A string table in which a name was searched for: where its last NUL is, and a mark for each
 /// index at which the name may be. Indexes that differ by a multiple of 4,096 share a mark.

@@ -5,7 +5,7 @@ use crate::requests::{LISTED, carry_out, check_answer, check_outputs, check_read
 use elf_fixtures::{
     hash_with_cycle, library_without_sections, note_segment, one_call, one_symbol_table,
 };
-use elf_listing::{FIXED_BYTES, SUFFIX_BYTES, VERSION_BYTES};
+use elf_listing::{FIXED_BYTES, SEARCH_BYTES, SUFFIX_BYTES, VERSION_BYTES};
 use elf_source::{MemorySource, StreamSource};
 use elf_table::HeaderBuffer;
 use std::process::Abort;
@@ -91,5 +91,6 @@ fn the_fixed_buffers_are_small(rt: HostRuntime) {
     assert!(rt; FIXED_BYTES == 16_276);
     assert!(rt; FIXED_BYTES <= 16_384);
     assert!(rt; VERSION_BYTES <= 8_192);
+    assert!(rt; SEARCH_BYTES <= 8_192);
     assert!(rt; SUFFIX_BYTES == 12_288);
 }
