@@ -336,7 +336,7 @@ def try_places(program):
                     names = bytearray(9000)
                     names[at : at + len(wanted)] = wanted
                     # With those whose mark is the same, and those one byte before and after.
-                    offsets = [0] * 700 + [at, at - 4096, at + 1, at - 1, at % 4096, 8999]
+                    offsets = [0] * 700 + [at, abs(at - 4096), at + 1, at - 1, at % 4096, 8999]
                     compare_made(program, folder, f"{wanted[:4]} at {at}", names, offsets, wanted)
         for size in (5, 6, 4095, 4096, 4097, 8187, 8188, 8189, 12_000):
             for ending in (b"main\0", b"main", b"mai", b"domain\0x", b"x" * 5, b"x" * 4):

@@ -396,14 +396,16 @@ class Cases:
         path = made(self.folder, "one_name",
                     [section(2, FAR, len(symbols), link=2, entry=24), section(3, FARTHER, len(strings))],
                     {FAR: symbols, FARTHER: strings})
-        run, length = self.run("one of 6,000 names", path, "show", "--only", "symbols", "--name", "name_4321", path), os.path.getsize(path)
-        asked, end = [(FARTHER, PAGE)], PAGE
+        search, end = [(FARTHER, PAGE)], PAGE
         while end < len(strings):
-            asked.append((FARTHER + end, min(PAGE - 9, len(strings) - end)))
+            search.append((FARTHER + end, min(PAGE - 9, len(strings) - end)))
             end += PAGE - 9
-        asked += [(FARTHER + 1 + 10 * number, 10) for number in (225, 2273, 4321)]
-        wanted = by_pages(asked, length)
-        check(f"one of 6,000 names: {len(wanted)} reads of names", first_difference(wanted, within(run.reads, FARTHER, len(strings))))
+        asked = head_of(2) + search
+        for number, rows in enumerate(pages(FAR, len(symbols), 170 * 24)):
+            asked += [rows, *((FARTHER + 1 + 10 * row, 10) for row in (225, 2273, 4321) if row // 170 == number)]
+        wanted = by_pages(asked, os.path.getsize(path))
+        run = self.run("one of 6,000 names", path, "show", "--only", "symbols", "--name", "name_4321", path)
+        check(f"one of 6,000 names: {len(wanted)} reads", first_difference(wanted, run.reads))
         check("one of 6,000 names: a line", "" if run.text.endswith(b" name_4321\n") and run.text.count(b"\n") == 1 else repr(run.text[:200]))
         run = self.run("one of 6,000 names, with a budget", path, "show", *BUDGET, "--only", "symbols", "--name", "name_4321", path)
         read = sum(size for _, size in within(run.reads, FARTHER, len(strings)))
