@@ -1,13 +1,14 @@
 -- The result for symbols, one after another.
-use Rattle.std.proofs.Common.{◌≡◌, ℕ, zero, suc, ◌+◌, ◌==◌, Bool, List, Result, Ok, Err, refl, sym, ap, subst, ◌∙◌, arith}
-use Rattle.elf_model.specs.Prelude.{Cut, DisplayedName, DynamicSymbols, SymbolTraitFlags, marked_by, marked_with_symbol, marks_from, shown, st_name, st_shndx, symbol_offset}
+use Rattle.std.proofs.Common.{◌≡◌, ℕ, zero, suc, ◌+◌, ◌<◌, ◌==◌, Bool, List, [], length, take, Result, Ok, Err, refl, sym, ap, subst, ◌∙◌, arith}
+use Rattle.elf_model.specs.Prelude.{Cut, DisplayedName, DynamicSymbols, SymbolTraitFlags, marked_by, marked_with_symbol, marks_from, shown, slice, st_name, st_shndx, symbol_offset}
+use Rattle.elf_model.proofs.NameLemmas.{View, is_cut, is_empty, is_outside, is_unended, is_whole, view}
 use Rattle.elf_model.specs.declared.causes.Cause.{Cause}
 use Rattle.elf_model.specs.declared.causes.Refusal.{Refusal}
 use Rattle.elf_model.specs.Names.DisplayedName.{Whole}
 use Rattle.elf_table.specs.Prelude.{IsAt, IsOfRead, Refuses}
 use Rattle.elf_table.specs.declared.fault.Fault.{Fault}
 use Rattle.elf_table.specs.declared.fault.Fault.TheVariants.{Refused, Source}
-use Rattle.elf_loader.specs.Prelude.{ReturnsMarks, marks_in, marks_with, symbol_traits_of}
+use Rattle.elf_loader.specs.Prelude.{AddsNone, ReturnsMarks, marks_in, marks_with, symbol_traits_of}
 use Rattle.elf_loader.specs.declared.symbol_traits.SymbolTraits.{SymbolTraits}
 
 module _ (file strings : List ℕ) where
@@ -80,6 +81,18 @@ module _ (file strings : List ℕ) (at : ℕ) (marks : SymbolTraits) where
       let told : marks_with file at strings (symbol_traits_of marks) ≡ Err (record { at = at; cause = refusal.cause }) = rw (r.1, marks_with) refl in
       told ∙ ap (λ (n : ℕ). Err (record { at = n; cause = refusal.cause })) (sym r.0)
   with_fault (Source fault offset) refuses = tt
+
+  -- its name isn't read: wherever it ends, it has no fault and adds none
+  pub with_none : st_name file at + 63 < length strings → AddsNone (symbol_traits_of marks) (st_shndx file at == 0)
+      → ReturnsMarks (marks_with file at strings (symbol_traits_of marks)) (Ok marks)
+  with_none inside adds = go (view strings (st_name file at) 63)
+    where
+      go : View strings (st_name file at) 63 → ReturnsMarks (marks_with file at strings (symbol_traits_of marks)) (Ok marks)
+      go (is_empty h e) = with_whole [] (st_shndx file at == 0) marks e refl (sym (adds []))
+      go (is_whole place h nul e) = with_whole (take place (slice strings (st_name file at) 64)) (st_shndx file at == 0) marks e refl (sym (adds (take place (slice strings (st_name file at) 64))))
+      go (is_cut h nul e) = with_cut (slice strings (st_name file at) 63) e
+      go (is_outside h e) = absurd (omega (arith, h.0, inside))
+      go (is_unended h few nul e) = absurd (omega (arith, few, inside))
 
 -- A LOOP over symbols: the result for those that are left
 module _ (file strings : List ℕ) (at n left : ℕ) (marks : SymbolTraits) (some : left ≡ suc n) where

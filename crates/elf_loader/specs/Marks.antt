@@ -1,6 +1,6 @@
 -- The hardening traits of symbols, one after another.
-use Rattle.std.specs.Prelude.{ℕ, zero, suc, ◌≡◌, ◌+◌, List, Result, Ok, Err}
-use Rattle.elf_model.specs.Prelude.{IsBudgetRefusal, SYMBOL_SIZE, SymbolTraitFlags, TRAIT_NAME_BYTES, marked_with_symbol, shown, st_name}
+use Rattle.std.specs.Prelude.{ℕ, zero, suc, ◌≡◌, ◌+◌, Bool, List, Result, Ok, Err}
+use Rattle.elf_model.specs.Prelude.{IsBudgetRefusal, SYMBOL_SIZE, SymbolTraitFlags, TRAIT_NAME_BYTES, marked_by, marked_with_symbol, shown, st_name}
 use Rattle.elf_model.specs.declared.causes.Refusal.{Refusal}
 use Rattle.elf_table.specs.declared.fault.Fault.{Fault}
 use Rattle.elf_table.specs.declared.fault.Fault.TheVariants.{Refused, Source}
@@ -9,6 +9,10 @@ use Rattle.elf_loader.specs.declared.symbol_traits.SymbolTraits.{SymbolTraits}
 -- the traits in the terms of the model
 abbrev pub symbol_traits_of : SymbolTraits → SymbolTraitFlags
 symbol_traits_of marks = record { canary = marks.canary; fortify = marks.fortify }
+
+-- A SYMBOL ADDS NONE, whatever its name, by whether it is undefined
+abbrev pub AddsNone : SymbolTraitFlags → (undefined : Bool) → Type 0
+AddsNone marks undefined = (name : List ℕ) → marked_by marks name undefined ≡ marks
 
 -- traits are those of the definitions, and so is a refusal, unless that is `Budget`
 abbrev pub ReturnsMarks : Result SymbolTraitFlags Refusal → Result SymbolTraits Fault → Type 0

@@ -7,7 +7,7 @@ pub use Rattle.elf_loader.specs.FoundVersions.{FindsVersion, IsRelocationReporte
 pub use Rattle.elf_loader.specs.Known.{KnownLie, KnownLies, ReturnsKnown, counts_asked}
 pub use Rattle.elf_loader.specs.Lists.{ReturnsList, all_notes_asked, first_list, is_list, list_among, list_at, notes_asked}
 pub use Rattle.elf_loader.specs.Lookups.{AnswersLoaderLookup, LooksAfter, LooksUp, MayLookOn, ReturnsLookup, looked_with, lookup_bytes, match_bytes}
-pub use Rattle.elf_loader.specs.Marks.{ReturnsMarks, marks_with, symbol_traits_of}
+pub use Rattle.elf_loader.specs.Marks.{AddsNone, ReturnsMarks, marks_with, symbol_traits_of}
 unfoldable pub use Rattle.elf_loader.specs.Marks.{marks_in}
 pub use Rattle.elf_loader.specs.Naming.{HasFile, IsFileIf, NamedAs, NamesBefore, NamesFile}
 pub use Rattle.elf_loader.specs.NumberSets.{has_number}

@@ -1,7 +1,7 @@
 //! The hardening traits of one symbol.
-ghost use Rattle.std.specs.Prelude.{◌≡◌};
+ghost use Rattle.std.specs.Prelude.{◌≡◌, true};
 ghost use Rattle.elf_model.specs.Traits.{marked_by, no_symbol_traits};
-ghost use Rattle.elf_loader.specs.Marks.{symbol_traits_of};
+ghost use Rattle.elf_loader.specs.Marks.{AddsNone, symbol_traits_of};
 
 use crate::symbol_names::{is_fortify_call, is_stack_protector};
 
@@ -32,4 +32,11 @@ pub(crate) fn no_symbol_traits() -> SymbolTraits
         canary: false,
         fortify: false,
     }
+}
+
+/// Returns `true` if no symbol adds a trait to these, whatever its name, by whether it is undefined.
+pub(crate) fn adds_none(marks: SymbolTraits, undefined: bool) -> bool
+    ensures { result ≡ true → AddsNone (symbol_traits_of marks) undefined }
+{
+    marks.canary && (marks.fortify || !undefined)
 }

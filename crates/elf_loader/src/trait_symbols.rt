@@ -1,5 +1,5 @@
 //! The hardening traits of the symbols of a file.
-ghost use Rattle.std.specs.Prelude.{◌≡◌, ℕ, ◌+◌, ◌-◌, ◌*◌, ◌≤◌, List, length, IfErr};
+ghost use Rattle.std.specs.Prelude.{◌≡◌, ℕ, ◌+◌, ◌-◌, ◌*◌, ◌<◌, ◌≤◌, List, length, true, IfErr};
 ghost use Rattle.elf_table.specs.Prelude.{CallDid, IsReadFault, StringsInBounds, TableInBounds, fault_of_result, strings_in};
 ghost use Rattle.elf_model.specs.Prelude.{DynamicSymbols as AreSymbolsOf, marks_from, no_symbol_traits, slice};
 ghost use Rattle.elf_note.specs.Ahead.{IsAheadOf, ReadsOnCredit, WhereAgrees};
@@ -8,7 +8,7 @@ ghost use Rattle.elf_hash.specs.Symbols.{IsDynamicSymbols, DynamicSymbolsInBound
 ghost use Rattle.elf_loader.specs.Marks.{ReturnsMarks, marks_in, symbol_traits_of, marks_with};
 
 use crate::symbol_names::NAME_CAP;
-use crate::symbol_traits::{SymbolTraits, marked_by, no_symbol_traits};
+use crate::symbol_traits::{SymbolTraits, adds_none, marked_by, no_symbol_traits};
 use elf_hash::DynamicSymbols;
 use elf_note::{NameIndex, ReadAhead};
 use elf_record::Sym;
@@ -79,7 +79,8 @@ fn symbol_traits_of_rows<S: Source>(
     Ok(marks)
 }
 
-/// Returns the traits with those of the symbol in a row of 24 bytes.
+/// Returns the traits with those of the symbol in a row of 24 bytes. A name that adds none is not
+/// read, unless it may have a fault.
 ///
 /// # Errors
 /// Those of [`ReadAhead::name`].
@@ -102,15 +103,24 @@ fn with_symbol<S: Source>(
         result) }
 {
     let symbol = symbol_in(row);
-    let index = NameIndex {
-        names,
-        off: u64::from(symbol.st_name),
-        at: row.at,
-    };
-    match ahead.name(src, index, NAME_CAP, name)? {
-        NameEnd::Whole => Ok(marked_by(marks, name.bytes(), symbol.st_shndx == SHN_UNDEF)),
+    let off = u64::from(symbol.st_name);
+    let undefined = symbol.st_shndx == SHN_UNDEF;
+    if adds_none(marks, undefined) && has_no_fault(names, off) {
+        return Ok(marks);
+    }
+    let at = row.at;
+    match ahead.name(src, NameIndex { names, off, at }, NAME_CAP, name)? {
+        NameEnd::Whole => Ok(marked_by(marks, name.bytes(), undefined)),
         NameEnd::Cut => Ok(marks),
     }
+}
+
+/// Returns `true` if the name at an index has no fault, wherever it ends: more bytes follow the
+/// index than are read of a name.
+fn has_no_fault(names: Names, off: u64) -> bool
+    ensures { result ≡ true → off + 63 < names.size }
+{
+    names.size().saturating_sub(off) > u64::from(NAME_CAP.bytes)
 }
 
 /// Decodes the symbol in a row of 24 bytes.
