@@ -38,12 +38,13 @@ class Words:
 
     def __init__(self, words):
         self.folders, self.asked, self.entry, self.has_dynamic = [], [], b"_start", False
+        self.root = b""
         self.is_shared = False
         self.static, self.whole, self.needed, self.pushed = False, False, False, None
         self.inputs, self.open = [], []
         self.sought = []
         self.read(list(words))
-        self.folders += SYSTEM
+        self.folders += [self.root + folder for folder in SYSTEM]
 
     def read(self, words):
         while words:
@@ -51,6 +52,8 @@ class Words:
             name = re.sub(rb"\A--?", b"", word).decode("utf-8", "surrogateescape")
             if not word.startswith(b"-") or word == b"-":
                 self.add(word)
+            elif word.startswith(b"--sysroot="):
+                self.root = word.partition(b"=")[2]
             elif word in (b"-(", b"--start-group", b"-start-group"):
                 self.open.append(self.inputs)
                 self.inputs = []
@@ -192,7 +195,14 @@ class Script:
                 found.append((self.placed(token), *self.held, needed))
 
     def placed(self, token):
-        """A path of a script: as it is, in the folders, or beside the script."""
+        """A path of a script: below the root, as it is, in the folders, or beside the script."""
+        root = self.words.root
+        if token.startswith(b"="):
+            return root + token[1:]
+        if token.startswith(b"/") and root and os.path.exists(root):
+            real = os.path.realpath(root)
+            if (os.path.realpath(self.path) + b"/").startswith(real.rstrip(b"/") + b"/"):
+                return root + token
         if token.startswith((b"-l", b"/")) or os.path.exists(token):
             return token
         paths = [folder + b"/" + token for folder in self.words.folders] + [os.path.join(os.path.dirname(self.path), token)]

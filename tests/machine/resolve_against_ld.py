@@ -8,7 +8,7 @@ Fortran with its libraries, static and shared, whole, in groups, as needed, in a
 installed, or with --quick 13; and generated jobs of objects, archives, whole archives and groups, every other one with shared libraries
 (tests/common/made_links.py), 1,000 of them or with --quick 100. Compared are the members of archives that ld takes, in their order, each with the file and
 the symbol for which it is taken, from the map of the link; which file defines each symbol, from its cross references; and which
-symbols are undefined or defined more than once, from its messages; and of each option that `ld --help` prints, whether the next
+symbols are undefined or defined more than once, from its messages; which files are taken with --sysroot; and of each option that `ld --help` prints, whether the next
 argument is its value. A symbol that no relocation uses is undefined for elfsee alone: those are counted. So are links that ld gives
 up, without a map, since a shared library refers to a hidden symbol.
 
@@ -144,6 +144,35 @@ class Links(Counts):
             self.check(f"{option} value.o: whether it is a value, and a file", (is_value, not is_value), (has_value, " value.o\n" in done.stdout))
 
 
+    def compare_roots(self, folder):
+        """Links with a root of the linker's directories: their libraries, and scripts below it and elsewhere."""
+        root, place = os.path.join(folder, "root"), "lib/x86_64-linux-gnu"
+        below = os.path.join(root, place)
+        os.makedirs(below)
+        os.makedirs("beside")
+        os.symlink(root, "other")
+        for name, text in (("bar", "int bar(void) { return 1; }"), ("root_main", "int bar(void); int _start(void) { return bar(); }")):
+            subprocess.run(["gcc", "-c", "-xc", "-", "-o", f"{name}.o"], input=text, text=True, check=True, env=PLAIN)
+        for archive in (f"{below}/libbar.a", "beside/libbeside.a"):
+            subprocess.run(["ar", "rcs", archive, "bar.o"], check=True, env=PLAIN)
+        for name, text in ((f"{below}/libabsolute.so", f"GROUP ( /{place}/libbar.a )"), (f"{below}/librelative.so", "GROUP ( libbar.a )"),
+                           (f"{below}/liboutside.so", f"INPUT ( {folder}/beside/libbeside.a )"), ("beside/libname.so", "INPUT ( -lbar )"),
+                           ("beside/libequals.so", f"INPUT ( =/{place}/libbar.a )"), ("beside/libabsent.so", f"INPUT ( /{place}/libbar.a )")):
+            with open(name, "w", encoding="utf-8") as file:
+                file.write(text + "\n")
+        for words in (["-lbar"], ["-labsolute"], ["-lrelative"], ["-l:libbar.a"], ["-Lbeside", "-lname"], ["-Lbeside", "-lequals"],
+                      [f"{below}/libabsolute.so"], [f"root/{place}/libabsolute.so"], [f"-Lroot/{place}", "-labsolute"]):
+            for option in (f"--sysroot={root}", f"--sysroot={root}/", "--sysroot=root", f"--sysroot={folder}/other"):
+                self.compare(f"{option} {' '.join(words)}", [option, "root_main.o", *words], True)
+            self.compare(f"{' '.join(words)} and a root at the end", ["--sysroot=beside", "root_main.o", *words, f"--sysroot={root}"], True)
+        for words in (["-Lbeside", "-labsent"], ["-loutside"], [f"/{place}/libbar.a"], ["--sysroot=", "-lbar"], ["--sysroot", root, "-lbar"]):
+            words = [f"--sysroot={root}" if words[0][:3] != "--s" else "-pie", "root_main.o", *words]
+            told = subprocess.run(["ld", *words, "-o", "out"], capture_output=True, text=True, check=False, env=PLAIN).stderr
+            done = subprocess.run([self.program, "resolve", "--", *words], capture_output=True, text=True, check=False, env=PLAIN)
+            missing = [line for line in done.stdout.splitlines() if line[:1] == "I" and line.split()[2] == "missing"]
+            self.check(f"{' '.join(words)}: a file is missing", (True, 1), ("cannot find" in told, len(missing)))
+
+
 def options_of_ld():
     """The options that ld prints, except those of other formats and those at which it ends."""
     text = subprocess.run(["ld", "--help"], stdout=subprocess.PIPE, text=True, check=False, env=PLAIN).stdout
@@ -178,6 +207,7 @@ def main():
             links.compare(f"job {number}: {b' '.join(words).decode()}", [os.fsdecode(word) for word in words], False)
         for option in options_of_ld():
             links.compare_value(option)
+        links.compare_roots(folder)
         os.chdir("/")
     if left_out:
         print(f"left out, since something is not installed: {'; '.join(left_out)}")

@@ -42,12 +42,14 @@ pub(crate) enum PendingStep {
 /// The inputs of a link, by their indexes.
 #[derive(Drop)]
 pub struct FoundInputs<'r, R> {
-    rt: &'r R,
+    pub(crate) rt: &'r R,
     pub(crate) texts: InputTexts,
+    pub(crate) root: TextPlace,
     pub(crate) directories: Vec<TextPlace>,
-    paths: Vec<TextPlace>,
+    pub(crate) paths: Vec<TextPlace>,
     pub(crate) pending: Vec<PendingStep>,
     pub(crate) script: [u8; SCRIPT_BYTES],
+    pub(crate) is_script_below: bool,
     pub(crate) scripts: usize,
     pub(crate) script_parts: usize,
     pub(crate) most: usize,
@@ -59,13 +61,16 @@ where
 {
     /// Creates inputs, of which none is found yet; at most one more than `rows` are.
     pub fn new(rt: &'r R, alloc: Global, rows: u32) -> FoundInputs<'r, R> {
+        let texts = InputTexts::new(alloc);
         FoundInputs {
             rt,
-            texts: InputTexts::new(alloc),
+            root: texts.text_from(0),
+            texts,
             directories: Vec::new(alloc),
             paths: Vec::new(alloc),
             pending: Vec::new(alloc),
             script: [0; SCRIPT_BYTES],
+            is_script_below: false,
             scripts: 0,
             script_parts: 0,
             most: (rows as usize).saturating_add(1),
@@ -87,6 +92,7 @@ where
             output: words.output,
         };
         self.add_directories(&words.directories)?;
+        self.set_root(words.root)?;
         self.add_directories(&SYSTEM)?;
         self.add_words(words)?;
         for _ in 0..u64::MAX {
@@ -98,6 +104,17 @@ where
         Ok(plan)
     }
 
+    /// Sets the directory below which those are that are added from now on.
+    ///
+    /// # Errors
+    /// Out of memory.
+    fn set_root(&mut self, root: &str) -> Result<(), AllocError> {
+        let start = self.texts.end();
+        self.texts.push(root.as_bytes())?;
+        self.root = self.texts.text_from(start);
+        Ok(())
+    }
+
     /// Adds directories that are searched for libraries after those before them.
     ///
     /// # Errors
@@ -105,6 +122,7 @@ where
     fn add_directories(&mut self, directories: &[&str]) -> Result<(), AllocError> {
         for directory in directories {
             let start = self.texts.end();
+            self.texts.append(self.root)?;
             self.texts.push(directory.as_bytes())?;
             self.directories.push(self.texts.text_from(start))?;
         }

@@ -76,6 +76,8 @@ pub struct LinkerWords<'w> {
     pub steps: Vec<WordStep<'w>>,
     /// The directories that are searched, before those of the linker.
     pub directories: Vec<&'w str>,
+    /// The directory below which those of the linker are.
+    pub root: &'w str,
     /// The symbols that are asked for.
     pub asked: Vec<&'w str>,
     /// What is made; a shared library among the inputs is not counted yet.
@@ -112,6 +114,7 @@ pub fn read_linker_words<'w>(
     let mut read = LinkerWords {
         steps: Vec::with_capacity(alloc, words.len())?,
         directories: Vec::with_capacity(alloc, words.len())?,
+        root: "",
         asked: Vec::with_capacity(alloc, words.len().saturating_add(1))?,
         output: OutputKind::PROGRAM,
         entry: START,
@@ -154,6 +157,10 @@ impl<'w> LinkerWords<'w> {
     fn take(&mut self, word: &'w str, next: Option<&'w str>) -> Result<usize, WordFault<'w>> {
         if !word.starts_with('-') || word == "-" {
             self.add(word, false)?;
+            return Ok(1);
+        }
+        if let Some(root) = word.strip_prefix("--sysroot=") {
+            self.root = root;
             return Ok(1);
         }
         let name = option_name(word);

@@ -5,9 +5,11 @@ use crate::link_texts::TextPlace;
 use crate::linker_scripts::{SCRIPT_BYTES, ScriptToken, ScriptTokens};
 use crate::linker_words::WordState;
 use elf_resolve::{InputKind, LinkPlan};
-use std::alloc::AllocError;
+use std::alloc::{AllocError, Global};
 use std::os::unix::fs::FileExt;
+use std::path::PathBuf;
 use std::rt::Files;
+use std::str;
 
 /// How many inputs and groups all scripts can have, inputs that are scripts again among them.
 const MOST_SCRIPT_PARTS: usize = 65_536;
@@ -29,6 +31,7 @@ where
     ) -> Result<(), AllocError> {
         let before = self.pending.len();
         self.scripts = self.scripts.saturating_add(1);
+        self.is_script_below = self.is_below_root(path);
         let script = self.script;
         let text = script.get(..size).unwrap_or(&[]);
         let is_good = if self.scripts < self.most {
@@ -139,10 +142,19 @@ where
     ) -> Result<(), AllocError> {
         let start = self.texts.end();
         let is_library = word.starts_with(b"-l");
-        let shown = if is_library { after(word, 2) } else { word };
-        self.texts.push(shown)?;
+        let is_absolute = word.starts_with(b"/");
+        let is_rooted = word.starts_with(b"=");
+        if is_rooted || is_absolute && self.is_script_below {
+            self.texts.append(self.root)?;
+        }
+        let hidden = if is_library {
+            2
+        } else {
+            usize::from(is_rooted)
+        };
+        self.texts.push(after(word, hidden))?;
         let text = self.texts.text_from(start);
-        let text = if is_library || word.starts_with(b"/") || self.is_there(text) {
+        let text = if is_library || is_absolute || is_rooted || self.is_there(text) {
             text
         } else {
             self.placed(text, path)?
@@ -153,6 +165,28 @@ where
             state,
         })?;
         Ok(())
+    }
+
+    /// Returns `true` if there is a root, and a path is below it, without links.
+    fn is_below_root(&self, path: TextPlace) -> bool {
+        if self.texts.text(self.root).is_empty() {
+            return false;
+        }
+        match (self.real_path(self.root), self.real_path(path)) {
+            (Some(root), Some(real)) => real.starts_with(&root),
+            _ => false,
+        }
+    }
+
+    /// Returns a path without links, if there is something at it.
+    fn real_path(&self, path: TextPlace) -> Option<PathBuf<Global>> {
+        let Ok(path) = str::from_utf8(self.texts.text(path)) else {
+            return None;
+        };
+        match self.rt.canonicalize(*self.paths.allocator(), path) {
+            Ok(real) => Some(real),
+            Err(_) => None,
+        }
     }
 
     /// Returns the path of a file in the first of the directories that has it.
