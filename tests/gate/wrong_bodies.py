@@ -9,8 +9,9 @@ whose second proof takes long. They are put into a copy of the repository, where
 or of those named. That takes minutes for each crate.
 
 With --quick nothing is proved: each edit must only be one that can be applied, in a file of its crate and with an old text that
-this has exactly once. Each edit is then turned, its file and its old text, and that must be found. It needs only Python 3
-then. The last line is `N passed, N failed`, and the status is 0 only if none failed and one passed.
+this has exactly once. Each edit is then turned, its file and its old text, and that must be found. The table of
+docs/PROOFS.md must have each edit of must-fail, with words of one row of docs/PROMISES.md that no other edit has. It needs
+only Python 3 then. The last line is `N passed, N failed`, and the status is 0 only if none failed and one passed.
 """
 
 import argparse
@@ -64,6 +65,36 @@ def wrong_in(crate, text):
     return "" if any(after != read(os.path.join(TOP, "crates", crate, path)) for path, after in texts.items()) else "it changes nothing"
 
 
+def tried_by_the_gate():
+    """The edits of must-fail, as crate/name."""
+    for crate in sorted(os.listdir(os.path.join(TOP, "crates"))):
+        folder = os.path.join(TOP, "crates", crate, "must-fail")
+        for name in sorted(os.listdir(folder)) if os.path.isdir(folder) else []:
+            yield f"{crate}/{name.removesuffix('.edit')}"
+
+
+def wrong_in_table(text, promises):
+    """What is wrong with the table of the edits that the gate tries, or nothing."""
+    rows = re.findall(r"(?m)^\| `(elf\w+/[\w-]+)` \| (.+) \|$", text)
+    if sorted(edit for edit, _ in rows) != sorted(tried_by_the_gate()):
+        return "it has other edits than must-fail"
+    for edit, words in rows:
+        if promises.count(words) != 1 or sum(words == other for _, other in rows) != 1:
+            return f"the words of {edit} are not those of one promise, or another edit's too"
+    return ""
+
+
+def check_table(counts):
+    """Checks the table, and that a row with other words, another edit's, or none is found."""
+    text = read(os.path.join(TOP, "docs", "PROOFS.md"))
+    promises = "\n".join(re.findall(r"(?m)^\| (.+?) \| ", read(os.path.join(TOP, "docs", "PROMISES.md"))))
+    counts.quiet_case("the table of edits", wrong_in_table(text, promises))
+    first, second = re.findall(r"(?m)^\| `elf\w+/[\w-]+` \| .+ \|\n", text)[:2]
+    words = second.split(" | ")[1]
+    for label, other in (("other words", first.replace(" | ", " | not ")), ("another's words", first.split(" | ")[0] + " | " + words), ("no row", "")):
+        counts.quiet_case(f"the table of edits, {label}", "" if wrong_in_table(text.replace(first, other), promises) else "it is not found")
+
+
 def turned(text):
     """An edit with another file, and one with another old text."""
     yield re.sub(r"(?m)^(file: \S+)$", r"\1x", text, count=1)
@@ -90,6 +121,7 @@ def main():
         counts.quiet_case(f"{crate}/{name}", wrong_in(crate, text))
         for at, other in enumerate(turned(text)):
             counts.quiet_case(f"{crate}/{name}, turned {at + 1}", "" if wrong_in(crate, other) else "it can be applied")
+    check_table(counts)
     if not given.quick and not counts.failed:
         with tempfile.TemporaryDirectory(prefix="wrong-bodies-") as room:
             copy_with_edits(room)
