@@ -41,11 +41,6 @@ class Hostile(Jobs):
             return [f"not ended after {SECONDS} seconds".encode()], None, b""
         return done.stdout.splitlines(), done.returncode, done.stderr
 
-    def write(self, files):
-        for name, content in files.items():
-            with open(name, "wb") as file:
-                file.write(content)
-
     def cut(self):
         """Each file of a link, cut."""
         files, words = small_link()

@@ -54,6 +54,7 @@ class Words:
                 self.add(word)
             elif word.startswith(b"--sysroot="):
                 self.root = word.partition(b"=")[2]
+                self.root = b"" if self.root == b"/" else self.root
             elif word in (b"-(", b"--start-group", b"-start-group"):
                 self.open.append(self.inputs)
                 self.inputs = []
@@ -197,11 +198,11 @@ class Script:
     def placed(self, token):
         """A path of a script: below the root, as it is, in the folders, or beside the script."""
         root = self.words.root
-        if token.startswith(b"="):
-            return root + token[1:]
+        if token.startswith((b"=", b"$SYSROOT")):
+            return root + token.removeprefix(b"=").removeprefix(b"$SYSROOT")
         if token.startswith(b"/") and root and os.path.exists(root):
             real = os.path.realpath(root)
-            if (os.path.realpath(self.path) + b"/").startswith(real.rstrip(b"/") + b"/"):
+            if os.path.realpath(self.path).startswith(real.rstrip(b"/") + b"/"):
                 return root + token
         if token.startswith((b"-l", b"/")) or os.path.exists(token):
             return token

@@ -9,8 +9,9 @@ references, commons, weak, absolute and unique definitions, visibilities, versio
 with an index of either size, whole archives and groups within groups. One job has a key for each order of three kinds of
 symbols. With `--problems` only the lines come that make the status 1, and those of the files that they name; of a link that
 is refused the refusal, and the files that are missing or refused. In each copy some bytes of one file differ: of its headers,
-its tables, its index. Then come archives that are malformed, limits at their edges, and budgets of all sizes. The last line is
-`N passed, N failed`, and the status is 0 only if none failed and one passed."""
+its tables, its index. Then come archives that are malformed, limits at their edges, roots that libraries and the paths of
+scripts are below, and budgets of all sizes. The last line is `N passed, N failed`, and the status is 0 only if none failed
+and one passed."""
 
 import itertools
 import os
@@ -51,11 +52,14 @@ class Jobs(Counts):
                               check=False, env={"PATH": "/usr/bin:/bin", "LC_ALL": "C"})
         return done.stdout.splitlines(), done.returncode, done.stderr
 
-    def compare(self, what, files, words):
-        """Writes the files of a job and compares both answers."""
+    def write(self, files):
         for name, content in files.items():
             with open(name, "wb") as file:
                 file.write(content)
+
+    def compare(self, what, files, words):
+        """Writes the files of a job and compares both answers."""
+        self.write(files)
         lines, status = resolved.answer(words, 200)
         got = self.run(words)
         self.check(what, (lines, status, b""), got)
@@ -107,6 +111,32 @@ class Jobs(Counts):
                 word = b"too-many-keys" if limit == "--keys" else b"too-many-rows"
                 is_so = (lines, status) == whole[:2] if is_enough else status == 1 and lines[-1].split()[-1] == word
                 self.quiet_case(f"{limit} {value}", "" if is_so else repr(lines[-3:]))
+
+    def roots(self):
+        """Links with a root of the linker's directories: libraries and scripts below it, beside it, and linked into it."""
+        here, place = os.fsencode(os.getcwd()), b"/lib/x86_64-linux-gnu"
+        below = b"root" + place
+        os.makedirs(below)
+        os.mkdir("root_2")
+        os.symlink("root", "linked")
+        os.symlink(here + b"/root_2/liboutside.so", below + b"/libaway.so")
+        library = archive([(b"m.o", relocatable([Symbol(b"f1", TEXT)]))], [(b"f1", 0)])
+        self.write({b"a.o": relocatable([Symbol(b"f1")]), below + b"/libf1.a": library, b"root_2/libf1.a": library,
+                    below + b"/libabsolute.so": b"GROUP ( %s/libf1.a )\n" % place, b"root_2/libequals.so": b"INPUT ( =%s/libf1.a )\n" % place,
+                    b"root_2/libmarked.so": b"INPUT ( $SYSROOT%s/libf1.a )\n" % place, b"root_2/itself.so": b"INPUT ( %s/root_2/libf1.a )\n" % here,
+                    b"root_2/liboutside.so": b"INPUT ( %s/root_2/libf1.a )\n" % here})
+        jobs = [[b"-lf1"], [b"-labsolute"], [below + b"/libabsolute.so"], [b"-laway"], [b"-Lroot_2", b"-lequals"], [b"-Lroot_2", b"-lmarked"]]
+        for words in [*jobs, [b"-Lroot_2", b"-loutside"]]:
+            for root in (b"root", here + b"/root/", b"linked"):
+                self.compare_root([b"--sysroot=" + root, b"a.o", *words])
+            self.compare_root([b"--sysroot=root_2", b"a.o", *words, b"--sysroot=root"])
+        for words in jobs:
+            for none in (b"--sysroot=", b"--sysroot=/"):
+                self.compare_root([b"--sysroot=root", b"a.o", *words, none])
+        self.compare_root([b"--sysroot=root_2/itself.so", b"a.o", b"root_2/itself.so"])
+
+    def compare_root(self, words):
+        self.compare(b" ".join(words).decode(), {}, words)
 
     def budgets(self, rng, count):
         """Within any budget the answer is whole, or the lines up to a refusal for lack of budget."""
@@ -221,6 +251,7 @@ def main():
         jobs.three_kinds()
         jobs.malformed()
         jobs.limits()
+        jobs.roots()
         jobs.random_jobs(rng, count)
         jobs.changed_copies(rng, copies)
         jobs.budgets(rng, 5 if given.quick else 50)

@@ -104,13 +104,14 @@ where
         Ok(plan)
     }
 
-    /// Sets the directory below which those are that are added from now on.
+    /// Sets the directory below which those are that are added from now on. As for ld, `/` is none.
     ///
     /// # Errors
     /// Out of memory.
     fn set_root(&mut self, root: &str) -> Result<(), AllocError> {
         let start = self.texts.end();
-        self.texts.push(root.as_bytes())?;
+        self.texts
+            .push(if root == "/" { b"" } else { root.as_bytes() })?;
         self.root = self.texts.text_from(start);
         Ok(())
     }

@@ -143,18 +143,14 @@ where
         let start = self.texts.end();
         let is_library = word.starts_with(b"-l");
         let is_absolute = word.starts_with(b"/");
-        let is_rooted = word.starts_with(b"=");
-        if is_rooted || is_absolute && self.is_script_below {
+        let mark = root_mark_size(word);
+        if mark > 0 || is_absolute && self.is_script_below {
             self.texts.append(self.root)?;
         }
-        let hidden = if is_library {
-            2
-        } else {
-            usize::from(is_rooted)
-        };
-        self.texts.push(after(word, hidden))?;
+        self.texts
+            .push(after(word, if is_library { 2 } else { mark }))?;
         let text = self.texts.text_from(start);
-        let text = if is_library || is_absolute || is_rooted || self.is_there(text) {
+        let text = if is_library || is_absolute || mark > 0 || self.is_there(text) {
             text
         } else {
             self.placed(text, path)?
@@ -173,7 +169,7 @@ where
             return false;
         }
         match (self.real_path(self.root), self.real_path(path)) {
-            (Some(root), Some(real)) => real.starts_with(&root),
+            (Some(root), Some(real)) => real.starts_with(&root) && !root.starts_with(&real),
             _ => false,
         }
     }
@@ -236,6 +232,15 @@ fn directory_size(path: &[u8]) -> usize {
         }
     }
     size
+}
+
+/// Returns how many bytes of a script's word say that its path is below the root.
+fn root_mark_size(word: &[u8]) -> usize {
+    if word.starts_with(b"$SYSROOT") {
+        8
+    } else {
+        usize::from(word.starts_with(b"="))
+    }
 }
 
 /// Returns the bytes of a word from an index on.
