@@ -33,47 +33,38 @@ fn read_name(
     end
 }
 
-#[test]
-fn names_in_order_take_few_reads(rt: HostRuntime) {
+// Reads as many names: some in order, and then each a step after the one before it, from the start
+// again past a size. Returns how many bytes were requested, and how often.
+fn read_names(count: u64, in_order: u64, step: u64, size: u64, rt: &impl Abort) -> (u128, u32) {
     let bytes = strings();
     let mut src = Counted::new(FaultySource::new(&bytes, 0));
     let mut ahead = ReadAhead::new();
-    for i in 0..2000 {
-        let end = read_name(&mut ahead, &mut src, 8 * i, &rt);
+    for i in 0..count {
+        let step = if i < in_order { 8 } else { step };
+        let off = i.saturating_mul(step) % size.max(1);
+        let end = read_name(&mut ahead, &mut src, off, rt);
         assert!(rt; end == Ok(NameEnd::Whole), "{i}");
     }
+    (src.asked(), src.into_inner().reads)
+}
+
+#[test]
+fn names_in_order_take_few_reads(rt: HostRuntime) {
     // 64 bytes, doubled up to 2,048, and then 4,096 at once.
-    assert!(rt; src.asked() == STRINGS as u128);
-    assert!(rt; src.into_inner().reads == 9);
+    assert!(rt; read_names(2000, 2000, 8, 16_000, &rt) == (STRINGS as u128, 9));
 }
 
 #[test]
 fn names_with_gaps_take_few_reads(rt: HostRuntime) {
-    let bytes = strings();
-    let mut src = Counted::new(FaultySource::new(&bytes, 0));
-    let mut ahead = ReadAhead::new();
-    for i in 0..150 {
-        let end = read_name(&mut ahead, &mut src, 104 * i, &rt);
-        assert!(rt; end == Ok(NameEnd::Whole), "{i}");
-    }
     // The second is 40 bytes after the first read, and the fourth 80 after the second, which gave
     // the third. Each read takes twice as many bytes as the last, at most 4,096.
-    assert!(rt; src.into_inner().reads == 9);
+    assert!(rt; read_names(150, 0, 104, 16_000, &rt).1 == 9);
 }
 
 #[test]
 fn scattered_names_behind_a_run_take_one_small_read_each(rt: HostRuntime) {
-    let bytes = strings();
-    let mut src = Counted::new(FaultySource::new(&bytes, 0));
-    let mut ahead = ReadAhead::new();
-    for i in 0..160 {
-        let off = if i < 10 { 8 * i } else { 616 * i % 15_000 };
-        let end = read_name(&mut ahead, &mut src, off, &rt);
-        assert!(rt; end == Ok(NameEnd::Whole), "{i}");
-    }
     // 64 and 128 bytes for the run, 256 after it, and then 64 each.
-    assert!(rt; src.asked() == 64 + 128 + 256 + 149 * 64);
-    assert!(rt; src.into_inner().reads == 152);
+    assert!(rt; read_names(160, 10, 616, 15_000, &rt) == (64 + 128 + 256 + 149 * 64, 152));
 }
 
 /// How many symbols the tables here have.
@@ -87,8 +78,10 @@ fn gives_symbol(
     rt: &impl Abort,
 ) -> bool {
     assert!(rt; src.length() == 24 * SYMBOLS && index < SYMBOLS);
-    let symbol = ahead.symbol(src, &Table::new(0, SYMBOLS, 24), index);
-    symbol.is_ok_and(|read| u64::from(read.st_name) == index)
+    match ahead.symbol(src, &Table::new(0, SYMBOLS, 24), index) {
+        Ok(symbol) => u64::from(symbol.st_name) == index,
+        Err(_) => false,
+    }
 }
 
 // The same with the credit that a name leaves.
@@ -119,16 +112,27 @@ fn symbols() -> [u8; 12_000] {
     bytes
 }
 
-#[test]
-fn symbols_in_order_take_few_reads(rt: HostRuntime) {
+// Reads as many symbols as there are, each a step after the one before it, from the start again
+// past the end, and returns how many bytes were requested, and how often.
+fn read_symbols(step: u64, rt: &impl Abort) -> (u128, u32) {
     let bytes = symbols();
     let mut src = Counted::new(FaultySource::new(&bytes, 0));
     let mut ahead = ReadAhead::new();
     for i in 0..SYMBOLS {
-        assert!(rt; read_symbol(&mut ahead, &mut src, i, &rt), "{i}");
+        let index = i.saturating_mul(step) % SYMBOLS;
+        assert!(rt; read_symbol(&mut ahead, &mut src, index, rt), "{i}");
     }
-    assert!(rt; src.asked() == 12_000);
-    assert!(rt; src.into_inner().reads == 10);
+    (src.asked(), src.into_inner().reads)
+}
+
+#[test]
+fn symbols_in_order_take_few_reads(rt: HostRuntime) {
+    assert!(rt; read_symbols(1, &rt) == (12_000, 10));
+}
+
+#[test]
+fn scattered_symbols_take_one_small_read_each(rt: HostRuntime) {
+    assert!(rt; read_symbols(77, &rt) == (12_000, 500));
 }
 
 #[test]
@@ -141,17 +145,4 @@ fn symbols_that_repeat_take_few_reads(rt: HostRuntime) {
     }
     // The second call for a symbol reads nothing, and leaves its 24 bytes to the next read.
     assert!(rt; src.into_inner().reads == 10);
-}
-
-#[test]
-fn scattered_symbols_take_one_small_read_each(rt: HostRuntime) {
-    let bytes = symbols();
-    let mut src = Counted::new(FaultySource::new(&bytes, 0));
-    let mut ahead = ReadAhead::new();
-    for i in 0..SYMBOLS {
-        let index = i * 77 % SYMBOLS;
-        assert!(rt; read_symbol(&mut ahead, &mut src, index, &rt), "{i}");
-    }
-    assert!(rt; src.asked() == 12_000);
-    assert!(rt; src.into_inner().reads == 500);
 }

@@ -97,12 +97,9 @@ fn whole_answer(
 
 /// Checks what was written, the status, and that no more bytes were requested than these.
 fn check_finished(rt: &impl Abort, finished: &Finished, text: &[u8], status: u8, cost: u128) {
-    assert!(rt;
-        outcome(&finished.answer) == (status, ""),
-        "status {status}"
-    );
+    assert!(rt; outcome(&finished.answer) == (status, ""));
     assert!(rt; finished.text.as_slice() == text, "status {status}");
-    assert!(rt; finished.asked <= cost, "{cost} bytes");
+    assert!(rt; finished.asked <= cost);
 }
 
 /// Carries out a request with its first read failing, then its second, and so on until none fails:
@@ -145,14 +142,11 @@ fn failed_answer(
 /// unless some may be written before.
 fn check_failed(rt: &impl Abort, failed: &Finished, whole: &Finished, at: u64, may_write: bool) {
     let fault = SourceFault::Device;
-    assert!(rt;
-        failed.answer == Err(RunFault::Source { fault, at }),
-        "read at {at}"
-    );
-    assert!(rt; failed.stopped == at, "read at {at}");
+    let is_fault = failed.answer == Err(RunFault::Source { fault, at }) && failed.stopped == at;
+    assert!(rt; is_fault, "read at {at}");
     assert!(rt; outcome(&failed.answer) == (3, "elfsee: read fault"));
-    assert!(rt; whole.text.starts_with(&failed.text), "read at {at}");
-    assert!(rt; failed.text.is_empty() || may_write, "read at {at}");
+    let is_prefix = whole.text.starts_with(&failed.text);
+    assert!(rt; is_prefix && (failed.text.is_empty() || may_write));
 }
 
 /// Checks that an answer is the whole one.
@@ -199,10 +193,7 @@ fn check_output(
     let mut out = Out::new(SliceSink::new(buffer));
     let answer = run(request, &mut src, store, &mut out);
     let written = prefix.len() as u128;
-    assert!(rt;
-        answer == Err(RunFault::Out(OutFault { written })),
-        "{written} bytes"
-    );
+    assert!(rt; answer == Err(RunFault::Out(OutFault { written })));
     assert!(rt; outcome(&answer) == (3, "elfsee: write fault"));
     assert!(rt; out.into_inner().written() == prefix, "{written} bytes");
 }
