@@ -2,25 +2,17 @@
 ghost use Rattle.std.specs.Prelude.{◌≡◌, ◌⊎◌, [], codes};
 ghost use Rattle.elf_cli.specs.Version.{VersionEnds};
 
-use crate::cause_texts::all_causes;
+use crate::cause_texts::CAUSES;
 use crate::exit_lines::{BAD_WORDS, ExitLine, OUT_OF_MEMORY};
-use crate::link_texts::{link_causes, link_states};
+use crate::link_texts::{LINK_CAUSES, LINK_STATES};
 use crate::outputs::{ERROR_LINE_BYTES, OUTPUT_BYTES, end_answer, write_rest};
-use crate::state_texts::all_states;
+use crate::state_texts::STATES;
 use elf_format::show_escaped_text;
 use elf_source::{Out, OutFault, Sink, WriteSink};
 use elf_table::RunFault;
 use std::alloc::{AllocError, Global};
 use std::io::{self, BufWriter, Stderr, Write};
 use strsim::levenshtein;
-
-/// A cause or a state, and what it means.
-pub(crate) struct Explanation {
-    /// Its word in the output.
-    pub(crate) word: &'static str,
-    /// What it means and what to do, in indented lines of at most 80 columns.
-    pub(crate) text: &'static str,
-}
 
 /// Prints what these causes and states mean, or what all of them mean if none is given.
 ///
@@ -33,7 +25,7 @@ pub fn report_explanations<R: Print + AllocGlobal>(
     errors: Stderr,
 ) -> Result<ExitLine, ExitLine> {
     for word in words {
-        if explanation_of(word).is_none() {
+        if entry_of(word).is_none() {
             return Err(unknown(rt.alloc(), word, errors));
         }
     }
@@ -67,16 +59,18 @@ fn explanations_into<W: Write + Drop>(words: &[&str], output: BufWriter<W>) -> E
 /// A fault of the output.
 fn write_explanations<W: Sink>(words: &[&str], out: &mut Out<W>) -> Result<(), OutFault> {
     for word in words {
-        if let Some(found) = explanation_of(word) {
-            write_explanation(found, out)?;
+        if let Some(found) = entry_of(word) {
+            write_entry(found, out)?;
         }
     }
     Ok(())
 }
 
-/// Returns the texts of explanations: those of causes, and then those of states.
-fn all_texts() -> [&'static [Explanation]; 4] {
-    [all_causes(), link_causes(), all_states(), link_states()]
+/// Returns the explanations of causes, and then those of states: of each a line with its word, and
+/// what it means and what to do in indented lines of at most 80 columns. An empty line is between
+/// two.
+fn all_texts() -> [&'static str; 4] {
+    [CAUSES, LINK_CAUSES, STATES, LINK_STATES]
 }
 
 /// Writes all explanations.
@@ -84,51 +78,58 @@ fn all_texts() -> [&'static [Explanation]; 4] {
 /// # Errors
 /// A fault of the output.
 fn write_all<W: Sink>(out: &mut Out<W>) -> Result<(), OutFault> {
-    for rows in all_texts() {
-        write_each(rows, out)?;
+    for text in all_texts() {
+        write_each(text, out)?;
     }
     Ok(())
 }
 
-/// Writes these explanations.
+/// Writes the explanations of a text.
 ///
 /// # Errors
 /// A fault of the output.
-fn write_each<W: Sink>(rows: &[Explanation], out: &mut Out<W>) -> Result<(), OutFault> {
-    for row in rows {
-        write_explanation(row, out)?;
+fn write_each<W: Sink>(text: &str, out: &mut Out<W>) -> Result<(), OutFault> {
+    for entry in text.split("\n\n") {
+        write_entry(entry, out)?;
     }
     Ok(())
 }
 
-/// Writes the word of an explanation in a line of its own, and the lines of its text.
+/// Writes an explanation.
 ///
 /// # Errors
 /// A fault of the output.
-fn write_explanation<W: Sink>(row: &Explanation, out: &mut Out<W>) -> Result<(), OutFault> {
-    out.put(row.word.as_bytes())?;
-    out.put(b"\n")?;
-    out.put(row.text.as_bytes())
+fn write_entry<W: Sink>(entry: &str, out: &mut Out<W>) -> Result<(), OutFault> {
+    out.put(entry.as_bytes())?;
+    out.put(b"\n")
 }
 
 /// Returns the explanation of a cause or a state.
-fn explanation_of(word: &str) -> Option<&'static Explanation> {
-    for rows in all_texts() {
-        if let Some(found) = explained(rows, word) {
+fn entry_of(word: &str) -> Option<&'static str> {
+    for text in all_texts() {
+        if let Some(found) = entry_in(text, word) {
             return Some(found);
         }
     }
     None
 }
 
-/// Returns the explanation of a word among these.
-fn explained(rows: &'static [Explanation], word: &str) -> Option<&'static Explanation> {
-    for row in rows {
-        if row.word == word {
-            return Some(row);
+/// Returns the explanation of a word in a text.
+fn entry_in(text: &'static str, word: &str) -> Option<&'static str> {
+    for entry in text.split("\n\n") {
+        if word_of(entry) == word {
+            return Some(entry);
         }
     }
     None
+}
+
+/// Returns the word of an explanation.
+fn word_of(entry: &str) -> &str {
+    match entry.split_once('\n') {
+        Some((word, _)) => word,
+        None => entry,
+    }
 }
 
 /// Reports that a word is no cause and no state, and returns how the program ends.
@@ -165,28 +166,29 @@ fn report_unknown(alloc: Global, word: &str, errors: Stderr) -> Result<(), Alloc
 /// Out of memory.
 fn nearest(alloc: Global, word: &str) -> Result<&'static str, AllocError> {
     let mut best = ("", usize::MAX);
-    for rows in all_texts() {
-        best = nearer_of(alloc, rows, word, best)?;
+    for text in all_texts() {
+        best = nearer_of(alloc, text, word, best)?;
     }
     Ok(best.0)
 }
 
-/// Returns the word among these that takes the fewest edits from another, and how many, or the best
+/// Returns the word in a text that takes the fewest edits from another, and how many, or the best
 /// of others if none takes fewer.
 ///
 /// # Errors
 /// Out of memory.
 fn nearer_of(
     alloc: Global,
-    rows: &'static [Explanation],
+    text: &'static str,
     word: &str,
     best: (&'static str, usize),
 ) -> Result<(&'static str, usize), AllocError> {
     let mut best = best;
-    for row in rows {
-        let edits = levenshtein(alloc, row.word, word)?;
+    for entry in text.split("\n\n") {
+        let known = word_of(entry);
+        let edits = levenshtein(alloc, known, word)?;
         if edits < best.1 {
-            best = (row.word, edits);
+            best = (known, edits);
         }
     }
     Ok(best)
