@@ -9,6 +9,7 @@ ghost use Rattle.elf_cli.specs.Described.{argument_row, command_row};
 use crate::arg_specs::{ArgSpec, clap_arg_of};
 use crate::arguments::all_arguments;
 use crate::command_args::CommandName;
+use crate::texts::more_of;
 use clap::Command;
 use std::alloc::{AllocError, Global};
 
@@ -20,9 +21,8 @@ pub(crate) struct CommandSpec {
     pub(crate) alias: Option<&'static str>,
     /// Its bit in a set of commands.
     pub(crate) bit: u16,
-    /// What help prints before the arguments, and after them.
+    /// What help prints before the arguments.
     pub(crate) about: &'static str,
-    pub(crate) more: &'static str,
 }
 
 /// Creates a command with the given name, with what its help prints before and after its arguments.
@@ -58,7 +58,7 @@ pub(crate) fn clap_command_of<'a>(
 fn named<'a>(alloc: Global, command: &CommandSpec) -> Result<Command<'a>, AllocError>
     ensures { IfOk result (IsBuilt (with_names (command_row command.now))) }
 {
-    let built = new_command(alloc, command.name, command.about, command.more);
+    let built = new_command(alloc, command.name, command.about, more_of(command.command));
     match command.alias {
         Some(name) => built.visible_alias(name),
         None => Ok(built),

@@ -11,10 +11,7 @@ use crate::command_sets::{
     APPLY, ARCHIVE, BYTES, CHECK, EXPLAIN, FIND, IMAGE, LIST, NEEDS, RESOLVE, SAMPLE, SHOW, TRAITS,
     VERSION,
 };
-use crate::texts::{
-    ABOUT, CHECKED, COPIED, EXPLAINED, FOUND, HARDENED, IMAGED, ITEMS, LISTED, MEMBERS, MORE,
-    NEEDED, RESOLVED, SAMPLED, SHOWN,
-};
+use crate::texts::{ABOUT, MORE};
 use clap::Command;
 use std::alloc::{AllocError, Global};
 
@@ -26,7 +23,6 @@ static COMMANDS: [CommandSpec; 14] = [
         alias: None,
         bit: SHOW,
         about: "List a whole file or parts of it",
-        more: SHOWN,
     },
     CommandSpec {
         name: "sample",
@@ -34,7 +30,6 @@ static COMMANDS: [CommandSpec; 14] = [
         alias: None,
         bit: SAMPLE,
         about: "List a small file that is built into the program",
-        more: SAMPLED,
     },
     CommandSpec {
         name: "find",
@@ -42,7 +37,6 @@ static COMMANDS: [CommandSpec; 14] = [
         alias: None,
         bit: FIND,
         about: "Look up a name in the file's own hash table",
-        more: FOUND,
     },
     CommandSpec {
         name: "apply",
@@ -50,7 +44,6 @@ static COMMANDS: [CommandSpec; 14] = [
         alias: None,
         bit: APPLY,
         about: "Write a section's bytes with its relocations applied",
-        more: ITEMS,
     },
     CommandSpec {
         name: "bytes",
@@ -58,7 +51,6 @@ static COMMANDS: [CommandSpec; 14] = [
         alias: None,
         bit: BYTES,
         about: "Write the bytes of a section or of a segment",
-        more: COPIED,
     },
     CommandSpec {
         name: "image",
@@ -66,7 +58,6 @@ static COMMANDS: [CommandSpec; 14] = [
         alias: None,
         bit: IMAGE,
         about: "Write a segment's bytes as a loader leaves them",
-        more: IMAGED,
     },
     CommandSpec {
         name: "check",
@@ -74,7 +65,6 @@ static COMMANDS: [CommandSpec; 14] = [
         alias: None,
         bit: CHECK,
         about: "Check many files: which are malformed, where and why",
-        more: CHECKED,
     },
     CommandSpec {
         name: "list",
@@ -82,7 +72,6 @@ static COMMANDS: [CommandSpec; 14] = [
         alias: None,
         bit: LIST,
         about: "List many files, whole or parts of each",
-        more: LISTED,
     },
     CommandSpec {
         name: "traits",
@@ -90,7 +79,6 @@ static COMMANDS: [CommandSpec; 14] = [
         alias: Some("hardening"),
         bit: TRAITS,
         about: "Print how each of many files is hardened",
-        more: HARDENED,
     },
     CommandSpec {
         name: "needs",
@@ -98,7 +86,6 @@ static COMMANDS: [CommandSpec; 14] = [
         alias: Some("deps"),
         bit: NEEDS,
         about: "Print which libraries programs need and where they are",
-        more: NEEDED,
     },
     CommandSpec {
         name: "resolve",
@@ -106,7 +93,6 @@ static COMMANDS: [CommandSpec; 14] = [
         alias: None,
         bit: RESOLVE,
         about: "Print where a linker takes each symbol of a link from",
-        more: RESOLVED,
     },
     CommandSpec {
         name: "archive",
@@ -114,7 +100,6 @@ static COMMANDS: [CommandSpec; 14] = [
         alias: None,
         bit: ARCHIVE,
         about: "List the members of an archive, such as a static library",
-        more: MEMBERS,
     },
     CommandSpec {
         name: "explain",
@@ -122,7 +107,6 @@ static COMMANDS: [CommandSpec; 14] = [
         alias: None,
         bit: EXPLAIN,
         about: "Print what causes and states mean, and what to do about them",
-        more: EXPLAINED,
     },
     CommandSpec {
         name: "version",
@@ -130,7 +114,6 @@ static COMMANDS: [CommandSpec; 14] = [
         alias: None,
         bit: VERSION,
         about: "Print the version of this program, as -V does",
-        more: "Example: elfsee version",
     },
 ];
 

@@ -1,5 +1,7 @@
 //! The texts of help, of the program and of each command, in at most 80 columns.
 
+use crate::command_args::CommandName;
+
 pub(crate) const ABOUT: &str = "\
 Lists ELF64 files, looks up names in them, and applies their relocations.
 It terminates for any input, within its limits of memory and reads.";
@@ -335,3 +337,23 @@ Examples:
 
 Columns: those of 'elfsee help show', and
   A  index offset size name";
+
+/// Returns what the help of a command prints after its arguments.
+pub(crate) fn more_of(command: CommandName) -> &'static str {
+    match command {
+        CommandName::Show => SHOWN,
+        CommandName::Sample => SAMPLED,
+        CommandName::Find => FOUND,
+        CommandName::Apply => ITEMS,
+        CommandName::Bytes => COPIED,
+        CommandName::Image => IMAGED,
+        CommandName::Check => CHECKED,
+        CommandName::List => LISTED,
+        CommandName::Traits => HARDENED,
+        CommandName::Needs => NEEDED,
+        CommandName::Resolve => RESOLVED,
+        CommandName::Archive => MEMBERS,
+        CommandName::Explain => EXPLAINED,
+        CommandName::Version => "Example: elfsee version",
+    }
+}
