@@ -1,10 +1,10 @@
 //! Commands built from their descriptions.
 ghost use Rattle.std.specs.Prelude.{◌≡◌, IfOk};
-ghost use Rattle.clap.specs.Simple.{App, new_app};
+ghost use Rattle.clap.specs.Simple.{App, new_app, with_rule};
 ghost use Rattle.clap.specs.Words.{app_of};
 ghost use Rattle.elf_cli.specs.Building.{IsBuilt};
-ghost use Rattle.elf_cli.specs.CommandLine.{described, with_argument, with_command, with_names};
-ghost use Rattle.elf_cli.specs.Described.{argument_row, command_row};
+ghost use Rattle.elf_cli.specs.CommandLine.{described, with_command, with_names};
+ghost use Rattle.elf_cli.specs.Described.{command_row, rule_by};
 
 use crate::arg_specs::{ArgSpec, clap_arg_of};
 use crate::arguments::all_arguments;
@@ -48,7 +48,7 @@ pub(crate) fn clap_command_of<'a>(
     let arguments = all_arguments();
     for argument in arguments {
         if argument.commands & command.bit == command.bit {
-            whole = with_argument(alloc, whole, argument, command.bit)?;
+            whole = with_argument(alloc, whole, argument)?;
         }
     }
     Ok(whole)
@@ -65,19 +65,15 @@ fn named<'a>(alloc: Global, command: &CommandSpec) -> Result<Command<'a>, AllocE
     }
 }
 
-/// Returns a command with one more argument, if the command with this bit has it.
+/// Returns a command with one more argument.
 fn with_argument<'a>(
     alloc: Global,
     command: Command<'a>,
     argument: &ArgSpec,
-    bit: u16,
 ) -> Result<Command<'a>, AllocError>
     ensures { (app : App) → IsBuilt app command.entry → IfOk result
-        (IsBuilt (with_argument bit app (argument_row argument.now))) }
+        (IsBuilt (with_rule app (rule_by argument.now))) }
 {
-    if argument.commands & bit != bit {
-        return Ok(command);
-    }
     command.arg(clap_arg_of(alloc, argument)?)
 }
 
