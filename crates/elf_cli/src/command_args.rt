@@ -232,6 +232,11 @@ fn read<'a>(
     ensures command { IfOk result (λ args. args.command ≡ command) }
     ensures options { IfOk result (AreOptions options.now) }
 {
+    let items = options.values(alloc, "ITEM")?;
+    let paths = options.values(alloc, "PATH")?;
+    let causes = options.values(alloc, "CAUSE")?;
+    let names = options.values(alloc, "name")?;
+    let words = options.values(alloc, "WORDS")?;
     Ok(CommandArgs {
         command,
         file: options.text("FILE"),
@@ -240,11 +245,11 @@ fn read<'a>(
         wanted: options.text("SECTION"),
         wanted_index: options.place("SECTION"),
         segment: options.number("segment"),
-        items: options.values(alloc, "ITEM")?,
+        items,
         layout: options.text("layout"),
         explain: options.is_set("explain"),
-        paths: options.values(alloc, "PATH")?,
-        causes: options.values(alloc, "CAUSE")?,
+        paths,
+        causes,
         list: options.text("files0-from"),
         members: options.is_set("members"),
         caps: caps_of(options),
@@ -252,7 +257,7 @@ fn read<'a>(
         limits_names: options.is_given("names"),
         only: options.text("only"),
         parts: options.parts(),
-        names: options.values(alloc, "name")?,
+        names,
         name_list: options.text("name-list"),
         at: options.text("at"),
         address: options.text("address"),
@@ -275,7 +280,7 @@ fn read<'a>(
         key_bytes: options.number("key-bytes"),
         index: options.number("index"),
         rows: options.number("rows"),
-        words: options.values(alloc, "WORDS")?,
+        words,
     })
 }
 
