@@ -1,13 +1,14 @@
 -- Texts in a buffer: what keeps them, parts of them, and texts that are read, joined or split.
-use Rattle.std.proofs.Common.{◌≡◌, ℕ, ◌+◌, ◌-◌, ◌<◌, ◌≤◌, ◌^◌, ◌==◌, min, Bool, true, false, List, [], ◌∷◌, ◌++◌, length, get_or, take, drop, inl, inr, refl, sym, ap, ◌∙◌, zero-le, arith}
+use Rattle.std.proofs.Common.{◌≡◌, ℕ, ◌+◌, ◌-◌, ◌<◌, ◌≤◌, ◌^◌, ◌==◌, min, Bool, true, false, List, [], ◌∷◌, ◌++◌, length, get_or, take, drop, inl, inr, refl, sym, ap, ◌∙◌, zero-le, arith, IsOk, Result, is_ok, if◌then◌else◌, replicate, Vec}
 use Rattle.std.specs.Prelude.{None, Some, Ok, Err}
 use Rattle.std.specs.List.{position_or_len}
+use Rattle.std.specs.Vec.{with_items}
 use Rattle.std.proofs.lemmas.Bool.{cases_lt}
 use Rattle.std.proofs.lemmas.Bool.Decides.{nat_tests}
-use Rattle.std.proofs.lemmas.List.{append_assoc, drop-drop, drop-take, drop_at, get_or_past, length-append, length-drop, length-take, nil_from_length, take-take, take_all, take_at}
+use Rattle.std.proofs.lemmas.List.{append-nil, append_assoc, drop_all, drop-drop, drop-take, drop_at, get_or_past, length-append, length-drop, length-replicate, length-take, nil_from_length, take-take, take_all, take_at, with_items_is}
 use Rattle.std.proofs.lemmas.List.Sums.{position_or_len_is}
 use Rattle.std.proofs.lemmas.Slice.{take-put_mid}
-use borrow.Rule.Slice.PartMut.{put_mid}
+use borrow.Rule.Slice.PartMut.{put_mid, same_len_mid}
 use Rattle.memchr.specs.Find.{IsFirstByte, is_byte}
 use Rattle.elf_model.specs.Bytes.{slice}
 use Rattle.elf_model.specs.LinkSymbols.{is_default_at, link_name, version_sign_in}
@@ -18,7 +19,7 @@ use Rattle.elf_model.specs.declared.link_states.LinkCause.TheVariants.{Refused}
 use Rattle.elf_model.proofs.NameLemmas.{shown-empty, shown-outside}
 use Rattle.elf_model.proofs.NameLoops.{shown-found, shown-open}
 use Rattle.elf_model.proofs.Searches.{slice-two}
-use Rattle.elf_resolve.specs.StringBuffers.{FindsText, HoldsText, JoinedTexts, ReadText, SplitName, TableTexts}
+use Rattle.elf_resolve.specs.StringBuffers.{FindsText, HoldsText, JoinedTexts, KeptTexts, ReadText, SplitName, TableTexts}
 use Rattle.elf_resolve.specs.declared.string_buffer.HeldText.{HeldText}
 
 -- a slice of the first bytes
@@ -140,16 +141,60 @@ piece_read file bytes piece at done count k within before long is =
     take-put_mid done k bytes piece (done + count) (omega arith) within
     ∙ ap (λ xs. xs ++ piece) before ∙ ap (λ xs. slice file at done ++ xs) is ∙ sym (slice-two file at done count)
 
--- BYTES OF A FILE after those of other tables
-pub read_text : (file : List ℕ) (at size end : ℕ) (old : TableTexts) (b0 grown out : List ℕ) (most : ℕ) → record { bytes = b0; most = most } ≡ old → end ≡ length b0 + size → end < 2 ^ 64
-    → (0 < size → at + size ≤ length file) → out ≡ slice file at size → grown ≡ b0 ++ out
-    → ReadText file at size old (record { bytes = grown; most = most }) (record { start = length b0; size = size })
-read_text file at size end old b0 grown out most is ends fits within read grows = record {
-  within = within;
-  start = ap (λ (o : TableTexts). length o.bytes) is;
+-- BYTES PUT AFTER those of other tables, which are grown for them
+resized : {E : Type 0} (r : Result (Unit {0}) E) (grown all bytes : List ℕ) → IsOk r → grown ≡ (if is_ok r then all else bytes) → grown ≡ all
+resized (Ok x) grown all bytes ok is = is
+resized (Err e) grown all bytes ok is = cc
+
+put_after : (b0 grown out filler : List ℕ) (start end : ℕ) → start ≡ length b0 → start ≤ end → length filler ≡ end - start → grown ≡ take end b0 ++ filler
+    → put_mid start (end - start) grown out ≡ b0 ++ out
+put_after b0 grown out filler start end from within fills is =
+    let all : take end b0 ≡ b0 = take_all end b0 (omega arith) in
+    let grows : grown ≡ b0 ++ filler = is ∙ ap (λ b. b ++ filler) all in
+    let first : take start grown ≡ b0 = ap (take start) grows ∙ take_at b0 filler start (sym from) in
+    let rest : drop start grown ≡ filler = ap (drop start) grows ∙ drop_at b0 filler start (sym from) in
+    let none : drop (end - start) (drop start grown) ≡ [] = ap (drop (end - start)) rest ∙ drop_all (end - start) filler (omega arith) in
+    ap (λ b. b ++ (out ++ drop (end - start) (drop start grown))) first ∙ ap (λ b. b0 ++ (out ++ b)) none ∙ ap (λ b. b0 ++ b) (append-nil out)
+
+pub filled : {Z : Type 0} (v : Vec ℕ Z) (grown out : List ℕ) (start count : ℕ) → grown ≡ v.items → length out ≡ length (take count (drop start grown))
+    → (with_items v (put_mid start count grown out)).items ≡ put_mid start count grown out
+filled v grown out start count is long = with_items_is v (put_mid start count grown out) (same_len_mid start count grown out long ∙ ap length is ∙ sym v.ok.0)
+
+pub grown_put : {E : Type 0} (r : Result (Unit {0}) E) (b0 mid grown out : List ℕ) (n start end : ℕ) → IsOk r → n ≡ length b0 → start ≡ length b0 → start ≤ end
+    → grown ≡ mid → mid ≡ (if is_ok r then take end b0 ++ replicate (end - n) 0 else b0) → put_mid start (end - start) grown out ≡ b0 ++ out
+grown_put r b0 mid grown out n start end ok sized from within same is =
+    put_after b0 grown out (replicate (end - n) 0) start end from within (length-replicate (end - n) 0 ∙ omega arith) (same ∙ resized r mid _ _ ok is)
+
+pub grown_long : {E : Type 0} (r : Result (Unit {0}) E) (b0 mid grown : List ℕ) (n start end : ℕ) → IsOk r → n ≡ length b0 → start ≡ length b0 → start ≤ end
+    → grown ≡ mid → mid ≡ (if is_ok r then take end b0 ++ replicate (end - n) 0 else b0) → length grown ≡ end
+grown_long r b0 mid grown n start end ok sized from within same is =
+    let sum = length-append (take end b0) (replicate (end - n) 0) in
+    ap length (same ∙ resized r mid _ _ ok is) ∙ sum ∙ omega (arith, length-take end b0, length-replicate {A = ℕ} (end - n) 0)
+
+pub texts_kept : (old : TableTexts) (b0 new out : List ℕ) (most : ℕ) → record { bytes = b0; most = most } ≡ old → new ≡ b0 ++ out → KeptTexts old (record { bytes = new; most = most })
+texts_kept old b0 new out most is grows = record {
+  most = ap (λ (o : TableTexts). o.most) is;
+  first = ap (λ (o : TableTexts). take (length o.bytes) new) (sym is) ∙ ap (take (length b0)) grows ∙ take_at b0 out (length b0) refl ∙ ap (λ (o : TableTexts). o.bytes) is;
+}
+
+pub kept_then : {a b c : TableTexts} → KeptTexts a b → KeptTexts b c → KeptTexts a c
+kept_then {a} {b} {c} p q =
+    let longer : length a.bytes ≤ length b.bytes = omega (arith, length-take (length a.bytes) b.bytes, ap length p.first) in
+    record {
+      most = q.most ∙ p.most;
+      first = sym (take-take (length a.bytes) (length b.bytes) c.bytes longer) ∙ ap (take (length a.bytes)) q.first ∙ p.first;
+    }
+
+-- they are those of a file
+pub read_text : (file : List ℕ) (at size part count start : ℕ) (old : TableTexts) (b0 new out : List ℕ) (most : ℕ) → record { bytes = b0; most = most } ≡ old → start ≡ length b0
+    → part ≡ size → count ≡ size → start + size < 2 ^ 64 → (0 < part → at + part ≤ length file) → out ≡ slice file at part → new ≡ b0 ++ out
+    → ReadText file at size old (record { bytes = new; most = most }) (record { start = start; size = count })
+read_text file at size part count start old b0 new out most is from sized counted fits within read grows = record {
+  within = λ some. omega (arith, within);
+  start = from ∙ ap (λ (o : TableTexts). length o.bytes) is;
   fits = omega arith;
-  size_is = refl;
-  bytes = grows ∙ ap (λ b. b0 ++ b) read ∙ ap (λ (o : TableTexts). o.bytes ++ slice file at size) is;
+  size_is = counted;
+  bytes = grows ∙ ap (λ b. b0 ++ b) (read ∙ ap (slice file at) sized) ∙ ap (λ (o : TableTexts). o.bytes ++ slice file at size) is;
   most = ap (λ (o : TableTexts). o.most) is;
 }
 

@@ -2,10 +2,11 @@ use Rattle.std.proofs.Common.{true, false, refl, ap, ◌∙◌, sym}
 use Rattle.std.proofs.lemmas.Result.{err_from_is_err_and}
 use Rattle.elf_model.specs.Records.{section_at}
 use Rattle.elf_model.specs.Tables.{section_bytes}
+use Rattle.elf_source.proofs.ReadsLaws.{KeepsSource-then}
 use Rattle.elf_resolve.specs.SectionGroups.{sections_of_words}
 use Rattle.elf_resolve.specs.declared.section_groups.Dropped.TheVariants.{Nothing, Words}
 use Rattle.elf_resolve.proofs.SectionTakenLaws.{group_fault, group_none, group_one, signature_fault, tables_kept, took_none, took_one, words_held}
-use Rattle.elf_resolve.proofs.StringBufferLaws.{holds_kept}
+use Rattle.elf_resolve.proofs.StringBufferLaws.{holds_kept, kept_then}
 use Rattle.elf_resolve.proofs.section_groups.take_group.Goals as goal
 
 pub returns-in_err-group-clause-takes : goal.returns-in_err-group-clause-takes
@@ -65,3 +66,27 @@ returns-in-Ok-false-clause-takes g c = λ file known viewed held kind.
     (record { signature = signed.0; is_link_once = false; sections = sections_of_words c.bytes.result.now }) false
     (group_one file c.args.section c.in_ok-group.group c.bytes.result.now signed.0 kind found bytes (sym c.is_comdat.ensures ∙ c.if-not-is_comdat.false) signed.1)
     kept refl
+
+pub returns-in_err-name-clause-keeps : goal.returns-in_err-name-clause-keeps
+returns-in_err-name-clause-keeps g c = KeepsSource-then c.read.ensures.keeps c.signature.ensures.keeps
+
+pub returns-in_err-name-clause-stays : goal.returns-in_err-name-clause-stays
+returns-in_err-name-clause-stays g c = kept_then c.read.ensures.stays c.signature.ensures.stays
+
+pub returns-in-Ok-true-clause-keeps : goal.returns-in-Ok-true-clause-keeps
+returns-in-Ok-true-clause-keeps g c = KeepsSource-then c.read.ensures.keeps c.signature.ensures.keeps
+
+pub returns-in-Ok-true-clause-stays : goal.returns-in-Ok-true-clause-stays
+returns-in-Ok-true-clause-stays g c = kept_then c.read.ensures.stays c.signature.ensures.stays
+
+pub returns-in-Ok-false-clause-keeps : goal.returns-in-Ok-false-clause-keeps
+returns-in-Ok-false-clause-keeps g c = KeepsSource-then c.read.ensures.keeps c.signature.ensures.keeps
+
+pub returns-in-Ok-false-clause-stays : goal.returns-in-Ok-false-clause-stays
+returns-in-Ok-false-clause-stays g c = kept_then c.read.ensures.stays c.signature.ensures.stays
+
+pub returns-in-Err-clause-keeps : goal.returns-in-Err-clause-keeps
+returns-in-Err-clause-keeps g c = KeepsSource-then c.read.ensures.keeps c.signature.ensures.keeps
+
+pub returns-in-Err-clause-stays : goal.returns-in-Err-clause-stays
+returns-in-Err-clause-stays g c = kept_then c.read.ensures.stays c.signature.ensures.stays
