@@ -3,6 +3,7 @@ use Rattle.std.proofs.Common.{ap, ◌∙◌}
 use Rattle.std.proofs.lemmas.Result.{err_from_is_err_and}
 use Rattle.elf_model.specs.LinkSymbols.{object_refusal}
 use Rattle.elf_table.specs.Prelude.{StoreState}
+use Rattle.elf_source.proofs.ReadsLaws.{KeepsSource-then}
 use Rattle.elf_resolve.proofs.LinkFaultLaws.{fault_of_any}
 use Rattle.elf_resolve.proofs.ObjectRefusals.{header_fault, load_fault, object_passes, slots_read, tables_fault}
 use Rattle.elf_resolve.proofs.members.find_definition.Goals as goal
@@ -51,3 +52,12 @@ returns-clause-finds g c = λ file known.
     let held = c.in_ok-loaded.ensures.held file file_then read.1 in
     let tables = c.in_ok-tables.ensures.reads file (c.load.ensures.reads.keeps.same_file ∙ file_then) held in
     (object_passes file headers c.load.new.store.slots c.args.room.now.some read.0 here held.passes tables.pass, c.is_defined_in.ensures file tables.holds)
+
+pub returns-in_err-loaded-clause-keeps : goal.returns-in_err-loaded-clause-keeps
+returns-in_err-loaded-clause-keeps g c = KeepsSource-then c.linked_header.ensures.keeps c.load.ensures.reads.keeps
+
+pub returns-in_err-tables-clause-keeps : goal.returns-in_err-tables-clause-keeps
+returns-in_err-tables-clause-keeps g c = KeepsSource-then (KeepsSource-then c.linked_header.ensures.keeps c.load.ensures.reads.keeps) c.read_tables.ensures.keeps
+
+pub returns-clause-keeps : goal.returns-clause-keeps
+returns-clause-keeps g c = KeepsSource-then (KeepsSource-then c.linked_header.ensures.keeps c.load.ensures.reads.keeps) c.read_tables.ensures.keeps

@@ -2,6 +2,7 @@
 use Rattle.std.proofs.Common.{ap, ◌∙◌}
 use Rattle.std.proofs.lemmas.Result.{err_from_is_err_and}
 use Rattle.elf_table.specs.Prelude.{StoreState}
+use Rattle.elf_source.proofs.ReadsLaws.{KeepsSource-then}
 use Rattle.elf_resolve.specs.LinkFaults.{fault_of_table}
 use Rattle.elf_resolve.proofs.ObjectRefusals.{after_load, header_fault, load_fault, slots_read}
 use Rattle.elf_resolve.proofs.ObjectTaken.{object_fault, object_then}
@@ -36,3 +37,9 @@ returns-clause-takes g c = λ file known.
     object_then file headers c.args.row c.args.keys.now c.take_sections.new.keys c.take_sections.result
     (after_load file headers c.load.new.store.slots c.args.room.now.some read.0 here held.passes)
     (c.take_sections.ensures.takes file (c.load.ensures.reads.keeps.same_file ∙ file_then) held)
+
+pub returns-in_err-loaded-clause-keeps : goal.returns-in_err-loaded-clause-keeps
+returns-in_err-loaded-clause-keeps g c = KeepsSource-then c.linked_header.ensures.keeps c.load.ensures.reads.keeps
+
+pub returns-clause-keeps : goal.returns-clause-keeps
+returns-clause-keeps g c = KeepsSource-then (KeepsSource-then c.linked_header.ensures.keeps c.load.ensures.reads.keeps) c.take_sections.ensures.keeps

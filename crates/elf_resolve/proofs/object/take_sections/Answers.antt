@@ -3,6 +3,7 @@ use Rattle.std.proofs.Common.{◌≡◌, ℕ, [], subst, ◌∙◌}
 use Rattle.std.proofs.lemmas.Result.{err_from_is_err_and}
 use Rattle.elf_model.specs.LinkObjects.{groups_taken}
 use Rattle.elf_model.specs.Records.{e_shnum}
+use Rattle.elf_source.proofs.ReadsLaws.{KeepsSource-then}
 use Rattle.elf_resolve.specs.SectionGroups.{none_dropped}
 use Rattle.elf_resolve.specs.SectionMarks.{MarksDropped}
 use Rattle.elf_resolve.proofs.ObjectTaken.{sections_loaded, sections_then, symbols_then, tables_kept}
@@ -31,3 +32,12 @@ returns-clause-takes g c = λ file known held.
     let dropped = (groups_taken (none_dropped c.args.keys.now) groups.groups).sections in
     symbols_then file c.args.row c.args.keys.now c.drop_groups.new.keys c.note_sections.new.keys c.take_symbols.new.keys c.drop_groups.new.marks c.take_symbols.result tables.pass groups
     (c.in_ok-note_sections.ensures file dropped held kept groups.marked) (c.take_symbols.ensures file (e_shnum file) dropped kept groups.marked)
+
+pub returns-in_err-drop_groups-clause-keeps : goal.returns-in_err-drop_groups-clause-keeps
+returns-in_err-drop_groups-clause-keeps g c = KeepsSource-then c.read_tables.ensures.keeps c.drop_groups.ensures.keeps
+
+pub returns-in_err-note_sections-clause-keeps : goal.returns-in_err-note_sections-clause-keeps
+returns-in_err-note_sections-clause-keeps g c = KeepsSource-then c.read_tables.ensures.keeps c.drop_groups.ensures.keeps
+
+pub returns-clause-keeps : goal.returns-clause-keeps
+returns-clause-keeps g c = KeepsSource-then c.read_tables.ensures.keeps c.drop_groups.ensures.keeps

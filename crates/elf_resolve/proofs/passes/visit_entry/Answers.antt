@@ -1,4 +1,4 @@
-use Rattle.std.proofs.Common.{[], ◌∷◌, ◌++◌, sym, ap, ◌∙◌}
+use Rattle.std.proofs.Common.{[], ◌∷◌, ◌++◌, sym, subst, ap, ◌∙◌}
 use Rattle.std.specs.Prelude.{Some}
 use Rattle.std.proofs.lemmas.Result.{err_from_is_err_and}
 use Rattle.elf_model.specs.LinkKeys.{LinkKeys}
@@ -7,7 +7,8 @@ use Rattle.elf_model.specs.LinkPasses.{ArchiveMembers}
 use Rattle.elf_model.specs.declared.link_states.LinkRow.{LinkRow}
 use Rattle.elf_resolve.specs.Passing.{searched_archive, pass_of}
 use Rattle.elf_model.specs.declared.link_states.LinkRow.{LinkRow}
-use Rattle.elf_resolve.proofs.RowNameLaws.{keeps_member}
+use Rattle.elf_resolve.specs.RowNames.{KeepsMemberNames}
+use Rattle.elf_resolve.proofs.RowNameLaws.{keeps_itself, keeps_member}
 use Rattle.elf_resolve.proofs.PassLaws.{visited_again, visited_takes, visited_unasked}
 use Rattle.elf_resolve.proofs.PassingLaws.{member_by}
 use Rattle.elf_resolve.proofs.SearchStopLaws.{added_none, added_one, halts_at, stops_at, untaken_within, visit_adds}
@@ -76,3 +77,19 @@ returns-clause-names g c known =
     (ap (λ (r : LinkRow). r.input) c.member_row-row.ensures) (ap (λ (r : LinkRow). r.member) c.member_row-row.ensures)
     (adds ∙ ap (λ f. g.M.ArchiveObjects.names c.asks_for.new.members ++ (record { row = c.in-Some.index; name = f c.args.entry.member }) ∷ []) c.asks_for.ensures.named
     ∙ ap (λ l. l ++ (record { row = c.in-Some.index; name = g.M.ArchiveObjects.named c.args.members.now c.args.entry.member }) ∷ []) c.asks_for.ensures.names)
+
+pub returns-then-is_taken-clause-names : goal.returns-then-is_taken-clause-names
+returns-then-is_taken-clause-names g c known =
+    keeps_itself c.args.archive.input (g.M.ArchiveObjects.named c.args.members.now) c.args.link.now.rows.rows (g.M.ArchiveObjects.names c.args.members.now)
+
+pub returns-then-not-branch-clause-names : goal.returns-then-not-branch-clause-names
+returns-then-not-branch-clause-names g c known =
+    let rows = c.args.link.now.rows.rows in
+    subst (λ names. KeepsMemberNames c.args.archive.input (g.M.ArchiveObjects.named c.args.members.now) rows rows (g.M.ArchiveObjects.names c.args.members.now) names) (sym c.asks_for.ensures.names)
+    (keeps_itself c.args.archive.input (g.M.ArchiveObjects.named c.args.members.now) rows (g.M.ArchiveObjects.names c.args.members.now))
+
+pub returns-in_err-take-clause-known : goal.returns-in_err-take-clause-known
+returns-in_err-take-clause-known g c known = c.take.ensures.known (c.asks_for.ensures.known known)
+
+pub returns-clause-known : goal.returns-clause-known
+returns-clause-known g c known = c.take.ensures.known (c.asks_for.ensures.known known)
