@@ -157,13 +157,13 @@ where
     ensures { IfErr result (λ ending.
         EndsWithoutMemory ending.0 ending.1.now ⊎ EndsWithoutFile ending.0 ending.1.now) }
 {
+    let pages = match allocate_pages(rt.alloc(), request.limits.budget) {
+        Ok(pages) => pages,
+        Err(ending) => return Err(ending),
+    };
     let lines = TableWriter::new(io::writer(rt), format_of(&request.task));
     let (mut room, output) = match allocate(rt.alloc(), request.limits.headers, lines) {
         Ok(buffers) => buffers,
-        Err(ending) => return Err(ending),
-    };
-    let pages = match allocate_pages(rt.alloc(), request.limits.budget) {
-        Ok(pages) => pages,
         Err(ending) => return Err(ending),
     };
     match answer_into(rt, request, room.store(), pages, output, errors) {

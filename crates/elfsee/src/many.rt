@@ -1,5 +1,5 @@
 //! Commands over many files: `check` and `traits`.
-ghost use Rattle.std.specs.Prelude.{◌≡◌, ◌<◌, IfErr, IfOk};
+ghost use Rattle.std.specs.Prelude.{◌≡◌, ◌<◌, IfErr, IfOk, IfSome, length};
 ghost use Rattle.elfsee.specs.Ends.{EndsFiles, EndsWithoutMemory, StopsFiles, end_after, visit_end, list_end};
 
 use elf_cli::{
@@ -9,7 +9,7 @@ use elf_cli::{
 use elf_format::TableWriter;
 use elf_model::Format;
 use elf_requests::CommandRequest;
-use elf_source::{DeferredSink, LocatedSink, Out, OutFault, Sink, WriteSink};
+use elf_source::{DeferredSink, LocatedSink, Out, OutFault, PageCache, Sink, WriteSink};
 use elf_table::{HeaderBuffer, HeaderStore};
 use elf_walk::{
     CheckFiles, CheckOptions, DirWalk, FileRun, FileVisitor, ListFault, TraitOptions, TraitReport,
@@ -152,6 +152,31 @@ pub struct LineBuffers {
     pub location: Option<Vec<u8>>,
 }
 
+/// What visiting files takes of memory, besides the buffers of lines and headers.
+#[derive(Drop)]
+struct VisitRoom {
+    walk: DirWalk,
+    entries: Vec<u8>,
+    kept: Vec<u8>,
+    pages: PageCache,
+}
+
+/// Allocates what visiting files takes, if there is memory for it.
+fn allocate_room<R: Files + AllocGlobal>(rt: &R, budget: Option<u64>) -> Option<VisitRoom>
+    ensures { IfSome result (λ room. 0 < length room.kept.items) }
+{
+    let walk = DirWalk::new(rt.alloc()).ok()?;
+    let entries = vec![in rt.alloc(); 0u8; LIST_BYTES].ok()?;
+    let kept = vec![in rt.alloc(); 0u8; kept_bytes(rt)].ok()?;
+    let pages = allocate_pages(rt.alloc(), budget).ok()?;
+    Some(VisitRoom {
+        walk,
+        entries,
+        kept,
+        pages,
+    })
+}
+
 /// Allocates the other buffers, except those for headers, and visits all requested files.
 pub fn visit_files<R: Files + Print + Input + AllocGlobal, A: FileVisitor + Drop>(
     rt: &R,
@@ -164,18 +189,15 @@ pub fn visit_files<R: Files + Print + Input + AllocGlobal, A: FileVisitor + Drop
 where
     R::File: FileExt,
 {
-    let Ok(mut walk) = DirWalk::new(rt.alloc()) else {
+    let Some(room) = allocate_room(rt, files.budget) else {
         return FilesEnd::NoMemory;
     };
-    let Ok(mut entries) = vec![in rt.alloc(); 0u8; LIST_BYTES] else {
-        return FilesEnd::NoMemory;
-    };
-    let Ok(kept) = vec![in rt.alloc(); 0u8; kept_bytes(rt)] else {
-        return FilesEnd::NoMemory;
-    };
-    let Ok(pages) = allocate_pages(rt.alloc(), files.budget) else {
-        return FilesEnd::NoMemory;
-    };
+    let VisitRoom {
+        mut walk,
+        mut entries,
+        kept,
+        pages,
+    } = room;
     let lines = TableWriter::new(io::writer(rt), format);
     let output = LineSink::new(WriteSink::new(lines), kept);
     let LineBuffers { held, location } = buffers;
@@ -187,8 +209,7 @@ where
         pages,
     );
     let ended = visit_all(rt, files, &mut many, &mut walk, &mut entries);
-    let (ended, _output) = end_many(ended, many);
-    ended
+    end_many(ended, many).0
 }
 
 /// Returns a sink over `output` that adds locations to rows, if there is a buffer for them.

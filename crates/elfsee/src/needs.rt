@@ -7,16 +7,18 @@ use elf_cli::{
     CANNOT_OPEN, CommandArgs, ExitLine, OUT_OF_MEMORY, READ_FAULT, RunEnd, allocate, end_run, open,
 };
 use elf_format::TableWriter;
-use elf_library::{LibraryCache, NeedsFault, SystemFiles};
+use elf_library::{FileSource, LibraryCache, NeedsFault, SystemFiles};
 use elf_needs::{
     DependencyWalk, LineOptions, Listed, MOST_OBJECTS, NeedsBuffers, NeedsOptions, OpenFiles,
     OpenObjects, RootedFiles, SearchDirs, default_dirs, system_cache,
 };
 use elf_source::{FileReader, Out, OutFault, Sink, Source, StreamSource, WriteSink, opened_path};
 use elf_table::HeaderStore;
+use std::alloc::Global;
 use std::fs;
-use std::io::{self, BufWriter, ErrorKind, Input, Stderr, Write};
+use std::io::{self, BufWriter, ErrorKind, Input, Seek, Stderr, Write};
 use std::os::unix::fs::FileExt;
+use std::path::PathBuf;
 use std::rt::Files;
 
 /// How many paths may be tried, unless the arguments say so.
@@ -58,80 +60,133 @@ fn only_file<'a, R: Files>(rt: &R, files: &CommandArgs<'a>) -> Option<&'a str> {
     }
 }
 
-/// Allocates the buffers, and lists what one program needs.
+/// A program whose needs are listed, before any of its file is read.
+#[derive(Drop)]
+struct OpenProgram<'p, F: FileExt + Seek + Drop> {
+    /// Its path.
+    path: &'p str,
+    /// The path with all links resolved, by which its directory is found.
+    real: PathBuf<Global>,
+    /// Its file.
+    source: FileSource<F>,
+    /// The loader's cache that is searched, if there is one.
+    cache: Option<LibraryCache<FileSource<F>>>,
+}
+
+/// Opens the program, allocates the buffers, and lists what the program needs.
 ///
 /// # Errors
 /// Out of memory, or the program cannot be opened.
 fn list_needs<R: Files + Print + AllocGlobal>(
     rt: &R,
     asked: &CommandArgs<'_>,
-    file: &str,
+    path: &str,
 ) -> Result<ExitLine, ExitLine>
 where
     R::File: FileExt,
 {
-    let lines = TableWriter::new(io::writer(rt), asked.caps.style.format);
-    let (mut headers, output) = match allocate(rt.alloc(), asked.caps.limits.headers, lines) {
-        Ok(buffers) => buffers,
+    let program = match open_all(rt, asked, path) {
+        Ok(program) => program,
         Err(ending) => return Err(ending),
     };
-    let Ok(room) = NeedsBuffers::new(rt.alloc()) else {
-        return Err(OUT_OF_MEMORY);
+    let rooms = match allocate_rooms::<R>(rt, asked) {
+        Ok(rooms) => rooms,
+        Err(ending) => return Err(ending),
     };
-    let Ok(opened) = OpenObjects::new(rt.alloc(), MOST_OBJECTS, asked.symbols || asked.unused)
-    else {
-        return Err(OUT_OF_MEMORY);
-    };
-    needs_into(rt, asked, file, headers.store(), (room, opened), output)
+    let lines = TableWriter::new(io::writer(rt), asked.caps.style.format);
+    match allocate(rt.alloc(), asked.caps.limits.headers, lines) {
+        Ok((mut headers, output)) => {
+            Ok(needs_into(rt, asked, program, headers.store(), rooms, output))
+        }
+        Err(ending) => Err(ending),
+    }
 }
 
-/// Opens the program, and lists the objects that it needs to an output. The directory of the
-/// program is found from its path with all links resolved, which allocates before the program is
-/// opened.
+/// Opens the program at a path, and the loader's cache.
 ///
 /// # Errors
-/// Out of memory, or the program cannot be opened.
-fn needs_into<R: Files + AllocGlobal, W: Write + Drop>(
+/// Out of memory, or one of them cannot be opened.
+fn open_all<'p, R: Files + AllocGlobal>(
     rt: &R,
     asked: &CommandArgs<'_>,
-    file: &str,
-    store: HeaderStore<'_>,
-    rooms: (NeedsBuffers, OpenFiles<R::File>),
-    output: BufWriter<W>,
-) -> Result<ExitLine, ExitLine>
+    path: &'p str,
+) -> Result<OpenProgram<'p, R::File>, ExitLine>
 where
     R::File: FileExt,
 {
-    let (room, opened) = rooms;
-    let mut opened = opened;
-    let real = match rt.canonicalize(rt.alloc(), opened_path(file)) {
+    let real = match rt.canonicalize(rt.alloc(), opened_path(path)) {
         Ok(real) => real,
         Err(error) if error.kind() == ErrorKind::OutOfMemory => return Err(OUT_OF_MEMORY),
         Err(_) => return Err(CANNOT_OPEN),
     };
-    let source = match open_program(rt, file) {
+    let source = match open_program(rt, path) {
         Ok(source) => source,
         Err(ending) => return Err(ending),
     };
-    let cache = match loader_cache(rt, asked) {
-        Ok(cache) => cache,
-        Err(ending) => return Err(ending),
+    match loader_cache(rt, asked) {
+        Ok(cache) => Ok(OpenProgram {
+            path,
+            real,
+            source,
+            cache,
+        }),
+        Err(ending) => Err(ending),
+    }
+}
+
+/// Allocates the buffers of a walk, and room for the objects that it keeps open.
+///
+/// # Errors
+/// Out of memory.
+pub fn allocate_rooms<R: Files + AllocGlobal>(
+    rt: &R,
+    asked: &CommandArgs<'_>,
+) -> Result<(NeedsBuffers, OpenFiles<R::File>), ExitLine>
+where
+    R::File: FileExt,
+{
+    let Ok(room) = NeedsBuffers::new(rt.alloc()) else {
+        return Err(OUT_OF_MEMORY);
     };
+    match OpenObjects::new(rt.alloc(), MOST_OBJECTS, asked.symbols || asked.unused) {
+        Ok(opened) => Ok((room, opened)),
+        Err(_) => Err(OUT_OF_MEMORY),
+    }
+}
+
+/// Lists the objects that an open program needs to an output.
+fn needs_into<R: Files + AllocGlobal, W: Write + Drop>(
+    rt: &R,
+    asked: &CommandArgs<'_>,
+    program: OpenProgram<'_, R::File>,
+    store: HeaderStore<'_>,
+    rooms: (NeedsBuffers, OpenFiles<R::File>),
+    output: BufWriter<W>,
+) -> ExitLine
+where
+    R::File: FileExt,
+{
+    let (room, mut opened) = rooms;
+    let OpenProgram {
+        path,
+        real,
+        source,
+        cache,
+    } = program;
     let mut system = SystemFiles::new(rt, cache);
-    let program = system.program(source, real.as_str().as_bytes());
+    let object = system.program(source, real.as_str().as_bytes());
     let out = Out::new(WriteSink::new(output));
     let default = last_dirs(rt, asked);
     let mut walk = DependencyWalk::new(&settings(asked, default), store, room, out);
     let listed = walk.list(
         &mut system,
-        program,
-        file.as_bytes(),
+        object,
+        path.as_bytes(),
         real.as_str().as_bytes(),
         &mut opened,
     );
     let listed = list_after(&mut walk, listed, asked.symbols, asked.unused, &mut opened);
-    let (ending, _output) = end_run(ended(listed), walk.into_out().into_inner().into_inner());
-    Ok(ending)
+    end_run(ended(listed), walk.into_out().into_inner().into_inner()).0
 }
 
 /// Opens the file at a path. It is not inlined: the stack of its caller would hold the buffer of the

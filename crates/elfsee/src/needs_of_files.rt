@@ -2,11 +2,10 @@
 ghost use Rattle.std.specs.Prelude.{◌≡◌};
 
 use crate::many::{LineBuffers, VisitedPaths, ending_line, visit_files};
-use crate::needs::{last_dirs, loader_cache, settings};
+use crate::needs::{allocate_rooms, last_dirs, loader_cache, settings};
 use crate::needs_report::{NeedsReport, NeedsRule};
 use elf_cli::{CommandArgs, ExitLine, OUT_OF_MEMORY};
 use elf_library::SystemFiles;
-use elf_needs::{MOST_OBJECTS, NeedsBuffers, OpenObjects};
 use elf_table::HeaderBuffer;
 use std::io::{Input, Stderr};
 use std::os::unix::fs::FileExt;
@@ -29,12 +28,9 @@ where
     let Ok(headers) = HeaderBuffer::new(rt.alloc(), asked.caps.limits.headers) else {
         return Err(OUT_OF_MEMORY);
     };
-    let Ok(room) = NeedsBuffers::new(rt.alloc()) else {
-        return Err(OUT_OF_MEMORY);
-    };
-    let Ok(opened) = OpenObjects::new(rt.alloc(), MOST_OBJECTS, asked.symbols || asked.unused)
-    else {
-        return Err(OUT_OF_MEMORY);
+    let rooms = match allocate_rooms::<R>(rt, asked) {
+        Ok(rooms) => rooms,
+        Err(ending) => return Err(ending),
     };
     let cache = match loader_cache(rt, asked) {
         Ok(cache) => cache,
@@ -46,7 +42,7 @@ where
         system,
         rule_of(asked, last_dirs(rt, asked)),
         headers,
-        (room, opened),
+        rooms,
     );
     let buffers = LineBuffers {
         held: Vec::new(rt.alloc()),

@@ -138,29 +138,40 @@ fn resolve_words<R: Files + Print + RandomSource + AllocGlobal>(
 where
     R::File: FileExt,
 {
-    let alloc = rt.alloc();
-    let caps = caps_of(asked);
-    let Ok(output) = BufWriter::with_capacity(alloc, OUTPUT_BYTES, io::writer(rt)) else {
-        return Err(LinkFailure::Memory);
-    };
-    let Ok(hasher) = RandomState::new(rt) else {
-        return Err(LinkFailure::Read);
-    };
-    let mut found = FoundInputs::new(rt, alloc, caps.rows);
-    let Ok(plan) = found.find_all(alloc, words) else {
-        return Err(LinkFailure::Memory);
-    };
-    let Ok(memory) = Bump::try_with_capacity(alloc, caps.key_bytes as usize) else {
-        return Err(LinkFailure::Memory);
-    };
-    let steps = plan.steps.len();
-    let Ok(mut link) = Resolver::new(alloc, hasher, &caps, steps, &memory) else {
+    let mut found = FoundInputs::new(rt, rt.alloc(), caps_of(asked).rows);
+    let Ok(plan) = found.find_all(rt.alloc(), words) else {
         return Err(LinkFailure::Memory);
     };
     let mut files = BudgetedFiles::new(found, asked.caps.limits.budget);
-    let style = lines_of(asked);
-    let (ended, _output) = write_link(&mut link, &mut files, &words.asked, &plan, style, output);
-    ended
+    resolve_plan(rt, asked, &words.asked, &plan, &mut files)
+}
+
+/// Allocates what the limits allow, resolves a link by its plan, and writes its lines. Returns the
+/// status.
+///
+/// # Errors
+/// Those of [`resolve_words`].
+fn resolve_plan<R: Print + RandomSource + AllocGlobal, F: InputFiles>(
+    rt: &R,
+    asked: &CommandArgs<'_>,
+    names: &[&str],
+    plan: &LinkPlan,
+    files: &mut BudgetedFiles<F>,
+) -> Result<u8, LinkFailure> {
+    let caps = caps_of(asked);
+    let Ok(hasher) = RandomState::new(rt) else {
+        return Err(LinkFailure::Read);
+    };
+    let Ok(output) = BufWriter::with_capacity(rt.alloc(), OUTPUT_BYTES, io::writer(rt)) else {
+        return Err(LinkFailure::Memory);
+    };
+    let Ok(memory) = Bump::try_with_capacity(rt.alloc(), caps.key_bytes as usize) else {
+        return Err(LinkFailure::Memory);
+    };
+    let Ok(mut link) = Resolver::new(rt.alloc(), hasher, &caps, plan.steps.len(), &memory) else {
+        return Err(LinkFailure::Memory);
+    };
+    write_link(&mut link, files, names, plan, lines_of(asked), output).0
 }
 
 /// Returns how the lines are written.
