@@ -8,8 +8,8 @@ Fortran with its libraries, static and shared, whole, in groups, as needed, in a
 installed, or with --quick 13; and generated jobs of objects, archives, whole archives and groups, every other one with shared libraries
 (tests/common/made_links.py), 1,000 of them or with --quick 100. Compared are the members of archives that ld takes, in their order, each with the file and
 the symbol for which it is taken, from the map of the link; which file defines each symbol, from its cross references; and which
-symbols are undefined or defined more than once, from its messages; which files are taken with --sysroot; and of each option that `ld --help` prints, whether the next
-argument is its value. A symbol that no relocation uses is undefined for elfsee alone: those are counted. So are links that ld gives
+symbols are undefined or defined more than once, from its messages; which files are taken with --sysroot; and of each option
+that `ld --help` prints, whether the next argument is its value. A symbol that no relocation uses is undefined for elfsee alone: those are counted. So are links that ld gives
 up, without a map, since a shared library refers to a hidden symbol.
 
 It needs Python 3 and from Debian gcc and binutils, and for all links g++, gfortran and the libraries. Without PROGRAM the repository's own is tested, and built first if it
@@ -167,10 +167,10 @@ class Links(Counts):
             self.compare(f"{' '.join(words)} and a root at the end", ["--sysroot=beside", "root_main.o", *words, f"--sysroot={root}"], True)
         for words in (["-Lbeside", "-labsent"], ["-loutside"], [f"/{place}/libbar.a"], ["--sysroot=", "-lbar"], ["--sysroot", root, "-lbar"]):
             words = [f"--sysroot={root}" if words[0][:3] != "--s" else "-pie", "root_main.o", *words]
-            told = subprocess.run(["ld", *words, "-o", "out"], capture_output=True, text=True, check=False, env=PLAIN).stderr
+            errors = subprocess.run(["ld", *words, "-o", "out"], capture_output=True, text=True, check=False, env=PLAIN).stderr
             done = subprocess.run([self.program, "resolve", "--", *words], capture_output=True, text=True, check=False, env=PLAIN)
             missing = [line for line in done.stdout.splitlines() if line[:1] == "I" and line.split()[2] == "missing"]
-            self.check(f"{' '.join(words)}: a file is missing", (True, 1), ("cannot find" in told, len(missing)))
+            self.check(f"{' '.join(words)}: a file is missing", (True, 1), ("cannot find" in errors, len(missing)))
 
 
 def options_of_ld():
