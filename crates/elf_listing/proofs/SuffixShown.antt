@@ -1,6 +1,6 @@
 -- Rows that end in a name with its version, by what was read of both.
 use Rattle.std.proofs.Common.{◌≡◌, ℕ, ◌+◌, ◌*◌, ◌≤◌, ◌==◌, if◌then◌else◌, Bool, true, false, List, [], ◌∷◌, Option, None, Some, Result, Ok, Err, refl, sym, ap, ◌∙◌, arith}
-use Rattle.elf_model.specs.Prelude.{DisplayedName, EveryRow, Fault as FaultItem, Line, LinePrefix, ListingItem, ListingStyle, NoSuffix, RowFilter, Suffix, chooses, e_machine, entry_at, linked_at, named_row, r_sym, relocation_choice, relocation_prefix, relocation_row, relocation_row_with_version, relocation_size, section_at, sh_link, sh_offset, shown, st_name, strings_of, suffixed_row, symbol_choice, symbol_named, symbol_prefix, symbol_row, symbol_row_with_version, symbol_suffix}
+use Rattle.elf_model.specs.Prelude.{DisplayedName, EveryRow, Fault as FaultItem, Line, LinePrefix, ListingItem, ListingStyle, NoSuffix, RowFilter, Suffix, chooses, e_machine, entry_at, linked_at, name_bytes, named_row, r_sym, relocation_choice, relocation_prefix, relocation_row, relocation_row_with_version, relocation_size, section_at, sh_link, sh_offset, shown, st_name, strings_of, suffixed_row, symbol_choice, symbol_named, symbol_prefix, symbol_row, symbol_row_with_version, symbol_suffix}
 use Rattle.elf_model.specs.declared.causes.Cause.{Cause}
 use Rattle.elf_model.specs.declared.causes.Refusal.{Refusal}
 use Rattle.elf_model.proofs.SuffixLaws.{unsuffixed_line, unsuffixed_row}
@@ -14,6 +14,7 @@ use Rattle.elf_source.specs.Prelude.{OutState}
 use Rattle.elf_source.specs.declared.source.Source.{Ghosts as Sources}
 use Rattle.elf_source.specs.declared.sink.Sink.{Ghosts as Sinks}
 use Rattle.elf_listing.specs.Prelude.{ListingReads, SuffixRead, WroteUntilStop, row_by, suffix_by, suffix_read}
+use Rattle.elf_listing.specs.Suffixed.{suffix_cost}
 use Rattle.elf_listing.specs.declared.listing.Listing.{Listing}
 use Rattle.elf_listing.specs.declared.read_suffix.VersionSuffixEnd.{VersionSuffixEnd}
 use Rattle.elf_listing.specs.declared.suffixes.VersionLookup.{VersionLookup}
@@ -32,6 +33,20 @@ ListingReads-then a b c y result n m k within p q =
       SpendsAtMost-to (SpendsAtMost-then p.2 q.2) (omega (arith, first, second, within)),
       says_after _ _ _ result _ _ _ (omega (arith, first, within)) p.2.reads q.3,
     )
+
+-- a version that is read after a name, in a bound on both
+pub ListingReads-suffix : {S W X Y : Type 0} {s : Sources S} {w : Sinks W} (versions : Option VersionLookup) (a b c : Listing S W s w) (y : Y) (result : Result X Fault) (n : ℕ)
+    → ListingReads a b (Ok y) n → ListingReads b c result (suffix_cost versions b.style.cap.bytes) → ListingReads a c result (n + suffix_cost versions a.style.cap.bytes)
+ListingReads-suffix versions a b c y result n p q =
+    let same = p.0.same_style in
+    ListingReads-then a b c y result n (suffix_cost versions b.style.cap.bytes) (n + suffix_cost versions a.style.cap.bytes) (rw same (omega arith)) p q
+
+-- a name that is read after a word, in a bound on both
+pub ListingReads-name : {S W X Y : Type 0} {s : Sources S} {w : Sinks W} (a b c : Listing S W s w) (y : Y) (result : Result X Fault) (n : ℕ)
+    → ListingReads a b (Ok y) n → ListingReads b c result (name_bytes b.style.cap.bytes) → ListingReads a c result (n + name_bytes a.style.cap.bytes)
+ListingReads-name a b c y result n p q =
+    let same = p.0.same_style in
+    ListingReads-then a b c y result n (name_bytes b.style.cap.bytes) (n + name_bytes a.style.cap.bytes) (rw same (omega arith)) p q
 
 -- a read, in a looser bound
 pub ListingReads-more : {S W X Y : Type 0} {s : Sources S} {w : Sinks W} (a b : Listing S W s w) (y : Y) (x : X) (n k : ℕ) → n ≤ k → ListingReads a b (Ok y) n → ListingReads a b (Ok x) k

@@ -9,6 +9,7 @@ use Rattle.elf_table.proofs.OpenLaws.{still_open}
 use Rattle.elf_hash.proofs.EntryLaws.{entries_are}
 use Rattle.elf_hash.proofs.FoundLaws.{size_within}
 use Rattle.elf_note.proofs.HeldLaws.{still_held}
+use Rattle.elf_listing.proofs.Amounts.{some_of}
 use Rattle.elf_listing.proofs.LocatedShown.{guarded_fails, segment_found}
 use Rattle.elf_listing.proofs.RowLaws.{WroteSome-as, WroteUntilStop-unread-first}
 use Rattle.elf_listing.proofs.SectionShown.{whole_fails}
@@ -23,7 +24,7 @@ pub returns-in_err-table : goal.returns-in_err-table
 returns-in_err-table g c =
     let p = err_from_is_err_and c.from_residual.result c.from_residual.ensures.1 in
     rw (p.1, p.2) (ListingCalls-refused _ _ _ _ (search rules) (λ file held.
-    let viewed = views file _ _ _ (c.args.listing.now.loaded.belongs file held) c.args.listing.now.viewed held (omega (arith, c.requires)) in
+    let viewed = views file _ _ _ (c.args.listing.now.loaded.belongs file held) c.args.listing.now.viewed held (some_of c.requires) in
     let view : HoldsProgramHeaders file c.view-view.result.loaded c.view-view.result.store.now = rw (c.view-view.ensures.loaded, c.view-view.ensures.store) viewed in
     guarded_fails (segment_dynamic_checks file (segment_at file c.args.segment)) _ _ _ (whole_fails file _ _ (sym (c.in_err-table.ensures.held file view)))))
 
@@ -55,10 +56,10 @@ list_tables-requires g c = record {
   viewed = λ file held.
       let before = sym c.first_entries.ensures.did.costs.reads.keeps.same_file ∙ held in
       rw (c.view-view.ensures.loaded, c.view-view.ensures.store)
-      (views file _ _ _ (c.args.listing.now.loaded.belongs file before) c.args.listing.now.viewed before (omega (arith, c.requires)));
+      (views file _ _ _ (c.args.listing.now.loaded.belongs file before) c.args.listing.now.viewed before (some_of c.requires));
   tagged = λ file held.
       let before = sym c.first_entries.ensures.did.costs.reads.keeps.same_file ∙ held in
-      let viewed = views file _ _ _ (c.args.listing.now.loaded.belongs file before) c.args.listing.now.viewed before (omega (arith, c.requires)) in
+      let viewed = views file _ _ _ (c.args.listing.now.loaded.belongs file before) c.args.listing.now.viewed before (some_of c.requires) in
       let view : HoldsProgramHeaders file c.view-view.result.loaded c.view-view.result.store.now = rw (c.view-view.ensures.loaded, c.view-view.ensures.store) viewed in
       let is = (segment_found file _ _ (sym (c.in_ok-table.ensures.held file view))).1 in
       entries_are file _ c.in_ok-table.table _ (sym (ap (λ (t : TableRange). t.at) is)) (sym (ap (λ (t : TableRange). t.count) is)) (c.in_ok-found.ensures.did.known file before);
@@ -77,7 +78,7 @@ returns g c = record {
       let fits = rw c.view-view.ensures.loaded at (size_within c.in_ok-table.table _ c.in_ok-table.ensures.lies.within) in
       SpentCredit-after _ _ _ _ _ _ _ _ _ _ (omega (arith, fits)) c.in_ok-found.ensures.did.costs.reads c.list_tables.ensures.spent;
   shows = λ file held.
-      let viewed = views file _ _ _ (c.args.listing.now.loaded.belongs file held) c.args.listing.now.viewed held (omega (arith, c.requires)) in
+      let viewed = views file _ _ _ (c.args.listing.now.loaded.belongs file held) c.args.listing.now.viewed held (some_of c.requires) in
       let view : HoldsProgramHeaders file c.view-view.result.loaded c.view-view.result.store.now = rw (c.view-view.ensures.loaded, c.view-view.ensures.store) viewed in
       let passed = (segment_found file _ _ (sym (c.in_ok-table.ensures.held file view))).0 in
       WroteSome-as _ _ _ (guarded-passes (segment_dynamic_checks file (segment_at file c.args.segment)) _ passed)

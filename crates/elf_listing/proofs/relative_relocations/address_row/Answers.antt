@@ -7,6 +7,7 @@ use Rattle.elf_note.proofs.SpendsLaws.{SpendsAtMost-none}
 use Rattle.elf_source.proofs.GrowthLaws.{grows_not}
 use Rattle.elf_table.specs.declared.names.NameEnd.TheVariants.{Whole}
 use Rattle.elf_table.specs.Prelude.{shown_by}
+use Rattle.elf_listing.proofs.Amounts.{part_of}
 use Rattle.elf_listing.proofs.RelativeShown.{address_is, address_refused, refused_word}
 use Rattle.elf_listing.proofs.RowLaws.{WroteSome-as, chosen-hidden, chosen-shown}
 use Rattle.elf_listing.proofs.SelectionLaws.{placed-chosen-as}
@@ -23,7 +24,7 @@ pub returns-then-not-is_row_shown : goal.returns-then-not-is_row_shown
 returns-then-not-is_row_shown g c = record {
   grows = grows_not _;
   keeps = record { same_src = refl; same_out = refl; same_file = refl; same_style = refl };
-  spent = (SpendsAtMost-none _ _ _ _ (omega arith), tt);
+  spent = (SpendsAtMost-none _ _ _ _ (part_of _ _), tt);
   shows = λ file held.
       let word = c.args.word.now in
       let style = c.args.listing.now.style in

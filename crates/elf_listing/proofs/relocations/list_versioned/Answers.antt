@@ -1,6 +1,6 @@
 -- The table's checks, those of the symbols that it refers to, and then the version lookup come
 -- before its rows.
-use Rattle.std.proofs.Common.{◌≡◌, ◌+◌, ◌==◌, false, Option, None, refl, sym, ◌∙◌, arith}
+use Rattle.std.proofs.Common.{◌≡◌, ◌+◌, ◌==◌, false, Option, None, refl, sym, ◌∙◌}
 use Rattle.std.proofs.lemmas.Bool.{eq-eqb, ne_eqb}
 use Rattle.std.proofs.lemmas.Result.{err_from_is_err_and}
 use Rattle.elf_options.specs.Permitted.{style_of}
@@ -8,6 +8,7 @@ use Rattle.elf_table.specs.Store.{row}
 use Rattle.elf_model.specs.Prelude.{name_bytes, relocation_size, relocations, relocations_with_versions, sh_link}
 use Rattle.elf_listing.specs.Prelude.{linked_count, store_sections}
 use Rattle.elf_listing.specs.declared.suffixes.VersionLookup.{VersionLookup}
+use Rattle.elf_listing.proofs.Amounts.{not_none}
 use Rattle.elf_listing.proofs.ListsLaws.{ListingCalls-unread}
 use Rattle.elf_listing.proofs.RowLaws.{WroteSome-as}
 use Rattle.elf_listing.proofs.SuffixCosts.{plain_within, rows_plain, rows_within, suffixed_within, walks_fewer, walks_within}
@@ -26,7 +27,7 @@ returns-in_err-linked_suffixes g c =
     let headers = store_sections f.store.now in
     let count = c.args.table.count in
     let filled = c.requires.filled in
-    let some : (count == 0) ≡ false = ne_eqb _ 0 (λ zero. omega (arith, zero, filled)) in
+    let some : (count == 0) ≡ false = ne_eqb _ 0 (not_none filled) in
     let within = suffixed_within (relocations_with_versions c.args.rows.now.has_addends) f.store.now c.args.rows.now.section (sh_link (row f.store.now c.args.rows.now.section) 0) f.loaded.size _ cap (relocation_size c.args.rows.now.has_addends) (relocation_size c.args.rows.now.has_addends + (24 + name_bytes cap)) _ (eq-eqb _ _ kind) refl refl c.requires.entries.table in
     let fetches = rw link at told.fetches in
     let fewer = walks_fewer headers (sh_link (row f.store.now c.args.rows.now.section) 0) (linked_count c.args.rows.now.linked) count f.loaded.size some in
@@ -48,7 +49,7 @@ returns-then-not-branch g c =
     let headers = store_sections f.store.now in
     let count = c.args.table.count in
     let filled = c.requires.filled in
-    let some : (count == 0) ≡ false = ne_eqb _ 0 (λ zero. omega (arith, zero, filled)) in
+    let some : (count == 0) ≡ false = ne_eqb _ 0 (not_none filled) in
     let within = suffixed_within (relocations_with_versions c.args.rows.now.has_addends) f.store.now c.args.rows.now.section (sh_link (row f.store.now c.args.rows.now.section) 0) f.loaded.size _ cap (relocation_size c.args.rows.now.has_addends) (relocation_size c.args.rows.now.has_addends + (24 + name_bytes cap)) _ (eq-eqb _ _ kind) refl refl c.requires.entries.table in
     let fetches = rw link at told.fetches in
     let fewer = walks_fewer headers (sh_link (row f.store.now c.args.rows.now.section) 0) (linked_count c.args.rows.now.linked) count f.loaded.size some in
@@ -72,7 +73,7 @@ returns g c =
     let headers = store_sections f.store.now in
     let count = c.args.table.count in
     let filled = c.requires.filled in
-    let some : (count == 0) ≡ false = ne_eqb _ 0 (λ zero. omega (arith, zero, filled)) in
+    let some : (count == 0) ≡ false = ne_eqb _ 0 (not_none filled) in
     let within = suffixed_within (relocations_with_versions c.args.rows.now.has_addends) f.store.now c.args.rows.now.section (sh_link (row f.store.now c.args.rows.now.section) 0) f.loaded.size _ cap (relocation_size c.args.rows.now.has_addends) (relocation_size c.args.rows.now.has_addends + (24 + name_bytes cap)) _ (eq-eqb _ _ kind) refl refl c.requires.entries.table in
     let fetches = rw link at told.fetches in
     let fewer = walks_fewer headers (sh_link (row f.store.now c.args.rows.now.section) 0) (linked_count c.args.rows.now.linked) count f.loaded.size some in

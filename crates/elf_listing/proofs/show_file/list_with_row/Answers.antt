@@ -3,6 +3,7 @@ use Rattle.elf_options.specs.Permitted.{style_of}
 use Rattle.elf_model.specs.Prelude.{known_parts, load_items, style_ceiling, viewed as view_of}
 use Rattle.std.proofs.Common.{◌≡◌, ℕ, Ok, Err, sym, ap, arith, ◌∙◌}
 use Rattle.std.proofs.lemmas.Result.{err_from_is_err_and}
+use Rattle.elf_listing.proofs.Amounts.{asked_within, part_counted, part_within}
 use Rattle.elf_listing.proofs.FaultRowLaws.{header_finds, listed_finds, output_finds}
 use Rattle.elf_listing.proofs.FileShown.{header_part, items_are, header_alone}
 use Rattle.elf_listing.proofs.RowLaws.{WroteUntilStop-first, WroteSome-as}
@@ -22,14 +23,14 @@ returns-in_err-header-clause-ceiling g c =
     let p = err_from_is_err_and c.from_residual.result c.from_residual.ensures.1 in
     let below = slots_below c.args.src.now.seen.size c.args.store.now.slots (style_of c.args.style) in
     let most = header_most c.args.src.now.seen.size in
-    rw (p.1, p.2) (ListingCosts-fault _ _ _ _ _ _ (omega (arith, below, most)) c.header.ensures.reads c.in_err-header.ensures.says)
+    rw (p.1, p.2) (ListingCosts-fault _ _ _ _ _ _ (part_within _ most below) c.header.ensures.reads c.in_err-header.ensures.says)
 
 pub returns-in_err-header-clause-cost : goal.returns-in_err-header-clause-cost
 returns-in_err-header-clause-cost g c = λ file held.
     let p = err_from_is_err_and c.from_residual.result c.from_residual.ensures.1 in
     let most = header_most c.args.src.now.seen.size in
     let cost = cost_is file c.args.store.now.slots (style_of c.args.style) c.args.parts.0 in
-    rw (p.1, p.2) (ListingCosts-fault _ _ _ _ _ _ (omega (arith, most, cost)) c.header.ensures.reads c.in_err-header.ensures.says)
+    rw (p.1, p.2) (ListingCosts-fault _ _ _ _ _ _ (part_counted _ most cost) c.header.ensures.reads c.in_err-header.ensures.says)
 
 pub returns-in_err-header-clause-text : goal.returns-in_err-header-clause-text
 returns-in_err-header-clause-text g c = λ file held.
@@ -41,14 +42,14 @@ returns-in_err-list_header-clause-ceiling g c =
     let p = err_from_is_err_and c.from_residual-in_err-list_header.result c.from_residual-in_err-list_header.ensures.1 in
     let below = slots_below c.args.src.now.seen.size c.args.store.now.slots (style_of c.args.style) in
     let most = header_most c.args.src.now.seen.size in
-    rw (p.1, p.2) (ListingCosts-out _ _ _ _ _ _ (omega (arith, below, most)) c.header.ensures.reads c.in_err-list_header.ensures.fails)
+    rw (p.1, p.2) (ListingCosts-out _ _ _ _ _ _ (part_within _ most below) c.header.ensures.reads c.in_err-list_header.ensures.fails)
 
 pub returns-in_err-list_header-clause-cost : goal.returns-in_err-list_header-clause-cost
 returns-in_err-list_header-clause-cost g c = λ file held.
     let p = err_from_is_err_and c.from_residual-in_err-list_header.result c.from_residual-in_err-list_header.ensures.1 in
     let most = header_most c.args.src.now.seen.size in
     let cost = cost_is file c.args.store.now.slots (style_of c.args.style) c.args.parts.0 in
-    rw (p.1, p.2) (ListingCosts-out _ _ _ _ _ _ (omega (arith, most, cost)) c.header.ensures.reads c.in_err-list_header.ensures.fails)
+    rw (p.1, p.2) (ListingCosts-out _ _ _ _ _ _ (part_counted _ most cost) c.header.ensures.reads c.in_err-list_header.ensures.fails)
 
 pub returns-in_err-list_header-clause-text : goal.returns-in_err-list_header-clause-text
 returns-in_err-list_header-clause-text g c = λ file held.
@@ -88,14 +89,14 @@ returns-in_err-header-clause-unread g c = λ refusal refused. (c.header.ensures.
 
 pub returns-in_err-header-clause-alone : goal.returns-in_err-header-clause-alone
 returns-in_err-header-clause-alone g c = λ none.
-    let most = header_most c.args.src.now.seen.size in omega (arith, most, c.header.ensures.reads.at_most)
+    asked_within _ _ c.header.ensures.reads.at_most (header_most c.args.src.now.seen.size)
 
 pub returns-in_err-list_header-clause-unread : goal.returns-in_err-list_header-clause-unread
 returns-in_err-list_header-clause-unread g c = λ refusal refused. (c.header.ensures.unread refusal refused).1
 
 pub returns-in_err-list_header-clause-alone : goal.returns-in_err-list_header-clause-alone
 returns-in_err-list_header-clause-alone g c = λ none.
-    let most = header_most c.args.src.now.seen.size in omega (arith, most, c.header.ensures.reads.at_most)
+    asked_within _ _ c.header.ensures.reads.at_most (header_most c.args.src.now.seen.size)
 
 pub returns-clause-unread : goal.returns-clause-unread
 returns-clause-unread g c = λ refusal refused.

@@ -5,6 +5,7 @@ use Rattle.std.proofs.lemmas.Result.{err_from_is_err_and}
 use Rattle.elf_note.proofs.HeldLaws.{still_held}
 use Rattle.elf_note.proofs.SpendsLaws.{SpendsAtMost-none}
 use Rattle.elf_table.proofs.OpenLaws.{still_open}
+use Rattle.elf_listing.proofs.Amounts.{asked_begins, asked_last, asked_read, asked_row, count_begins, count_ends, count_fewer, count_given, count_next, count_within, part_of}
 use Rattle.elf_listing.proofs.ViewedLaws.{still_viewed}
 use Rattle.elf_table.specs.Cursors.{unread_bytes}
 use Rattle.elf_table.proofs.CursorLaws.{agrees_none}
@@ -19,13 +20,13 @@ rows-init g c =
     record {
       same_table = n.its_table;
       not_failed = n.failed;
-      counted = omega (arith, n.index, n.left);
+      counted = count_begins n.index n.left;
       lookup = refl;
       keeps = record { same_src = refl; same_out = refl; same_file = refl; same_style = refl };
-      spends = SpendsAtMost-none _ _ _ _ (omega arith);
-      asked = omega (arith, account_begins (reading c.cursor-cursor.result) c.args.table (g.K.TableRows.layout c.args.rows.now) (g.V.NameVersions.lookup c.args.versions.now) c.args.listing.now.style.cap.bytes c.requires.table.entry n.failed n.unread n.left);
+      spends = SpendsAtMost-none _ _ _ _ (part_of _ _);
+      asked = asked_begins _ _ (account_begins (reading c.cursor-cursor.result) c.args.table (g.K.TableRows.layout c.args.rows.now) (g.V.NameVersions.lookup c.args.versions.now) c.args.listing.now.style.cap.bytes c.requires.table.entry n.failed n.unread n.left);
       agrees = λ file held. agrees_none file (reading c.cursor-cursor.result) n.held;
-      listed = λ file held. omega (arith, n.index, n.rows file);
+      listed = λ file held. count_begins n.index (n.rows file);
       grows = grows_not _;
       text = λ file held of_kind. rows_none _ _ _ n.index;
     }
@@ -43,11 +44,11 @@ returns-in_err-advance g c = record {
       let p = err_from_is_err_and c.from_residual.result c.from_residual.ensures.1 in
       let known = c.rows.invariant in
       let e = c.in_err-advance.ensures in
-      rw (p.1, p.2) (spent_unread _ _ _ _ _ _ _ _ _ _ (omega (arith, known.asked)) known.spends e.reads (e.says known.not_failed));
+      rw (p.1, p.2) (spent_unread _ _ _ _ _ _ _ _ _ _ (asked_read _ _ _ known.asked) known.spends e.reads (e.says known.not_failed));
   shows = λ file held of_kind.
       let p = err_from_is_err_and c.from_residual.result c.from_residual.ensures.1 in
       let known = c.rows.invariant in
-      rw (p.1, p.2) (rows_unread ((g.K.TableRows.layout c.args.rows.now).items (g.V.NameVersions.lookup c.args.versions.now) file (style_of c.args.listing.now.style) c.args.table.at) (reading c.rows.cursor).index _ _ _ _ _ (omega (arith, known.listed file held)) (c.in_err-advance.ensures.steps.at_next known.not_failed) (known.text file held of_kind));
+      rw (p.1, p.2) (rows_unread ((g.K.TableRows.layout c.args.rows.now).items (g.V.NameVersions.lookup c.args.versions.now) file (style_of c.args.listing.now.style) c.args.table.at) (reading c.rows.cursor).index _ _ _ _ _ (count_within _ (known.listed file held)) (c.in_err-advance.ensures.steps.at_next known.not_failed) (known.text file held of_kind));
 }
 
 pub returns-in_err-row : goal.returns-in_err-row
@@ -103,11 +104,11 @@ rows-preserved g c =
     let bound = c.args.listing.now.src.now.asked + (c.args.listing.now.ahead.credit + rows_cost kind versions c.args.table c.args.listing.now.style.cap.bytes) in
     let most = rw known.keeps.same_style at asks.account in
     let account = with_credit (unread_bytes (reading old)) (unread_bytes (reading new)) c.rows.listing.src.now.asked c.advance.new.src.asked credit a.account in
-    let asked = account_step (reading old) (reading new) _ (c.advance.new.src.asked + credit) later own bound gives.one_less account (omega (arith, most)) known.asked in
+    let asked = account_step (reading old) (reading new) _ (c.advance.new.src.asked + credit) later own bound gives.one_less account (asked_row _ _ _ most) known.asked in
     record {
       same_table = gives.same_table ∙ known.same_table;
       not_failed = gives.still_not_failed;
-      counted = omega (arith, known.counted, gives.one_less, gives.next_index);
+      counted = count_next _ _ _ known.counted gives.one_less gives.next_index;
       lookup = c.in_ok-row.ensures.keeps ∙ known.lookup;
       keeps = record {
         same_src = lists.same_src ∙ known.keeps.same_src;
@@ -120,7 +121,7 @@ rows-preserved g c =
       agrees = λ file held. gives.agrees file (known.spends.reads.keeps.same_file ∙ held) (known.agrees file held);
       listed = λ file held.
           let less = step.one_less file (known.spends.reads.keeps.same_file ∙ held) (known.agrees file held) in
-          omega (arith, known.listed file held, less, gives.next_index);
+          count_given _ _ _ (known.listed file held) less gives.next_index;
       grows = grows_then known.grows row.grows;
       text = λ file held of_kind.
           let now = known.spends.reads.keeps.same_file ∙ held in
@@ -136,10 +137,10 @@ returns g c =
     record {
       grows = known.grows;
       keeps = record { same_src = known.keeps.same_src; same_out = known.keeps.same_out; same_file = known.keeps.same_file; same_style = known.keeps.same_style };
-      spent = let account = a.account in (step_last known.spends a.reads (omega (arith, known.asked, account)), tt);
+      spent = let account = a.account in (step_last known.spends a.reads (asked_last _ _ _ _ _ _ known.asked account), tt);
       shows = λ file held of_kind.
           let ends = step_ends _ {old = c.rows.cursor} _ c.if-branch.false a.steps in
-          let all : (reading c.rows.cursor).index ≡ (g.K.TableRows.layout c.args.rows.now).listed file c.args.table = omega (arith, known.listed file held, ends.none_left file) in
+          let all : (reading c.rows.cursor).index ≡ (g.K.TableRows.layout c.args.rows.now).listed file c.args.table = count_ends (known.listed file held) (ends.none_left file) in
           rw (← all) (known.text file held of_kind);
     }
 
@@ -179,4 +180,4 @@ row-requires-in-rows-clause-row g c =
 pub rows-smaller : goal.rows-smaller
 rows-smaller g c =
     let step = step_gives {old = c.rows.cursor} {new = c.advance.new.self} _ c.if-branch.true c.in_ok-advance.ensures.steps in
-    let less = step.gives.one_less in omega (arith, less)
+    count_fewer step.gives.one_less

@@ -7,6 +7,7 @@ use Rattle.elf_model.specs.TableKinds.{segment_dynamic}
 use Rattle.elf_table.specs.Prelude.{HoldsProgramHeaders, size_of}
 use Rattle.elf_table.proofs.OpenLaws.{still_open}
 use Rattle.elf_note.proofs.HeldLaws.{still_held}
+use Rattle.elf_listing.proofs.Amounts.{some_of}
 use Rattle.elf_listing.proofs.RowLaws.{WroteSome-as, WroteUntilStop-unread-first}
 use Rattle.elf_listing.proofs.SectionCosts.{segment_within}
 use Rattle.elf_listing.proofs.SectionShown.{no_table, segment_passes, table_fails, table_passes, whole_fails}
@@ -20,7 +21,7 @@ use Rattle.elf_listing.proofs.dynamic.SegmentDynamicListedKind.header.Goals as g
 pub returns-then-segment-ne-PT_DYNAMIC : goal.returns-then-segment-ne-PT_DYNAMIC
 unfolding segment_dynamic
 returns-then-segment-ne-PT_DYNAMIC g c = ListingCalls-nothing _ _ _ _ (λ file held.
-    let viewed = views file _ _ _ (c.args.listing.now.loaded.belongs file held) c.args.listing.now.viewed held (omega (arith, c.requires.below)) in
+    let viewed = views file _ _ _ (c.args.listing.now.loaded.belongs file held) c.args.listing.now.viewed held (some_of c.requires.below) in
     let is_at = c.segment.ensures.is_at file (rw (c.view-view.ensures.loaded, c.view-view.ensures.store) viewed) in
     no_table segment_dynamic file _ _ _ _ (ne_eqb _ _ (λ same. c.if-segment-ne-PT_DYNAMIC.true (is_at.p_type ∙ same))))
 
@@ -29,7 +30,7 @@ unfolding segment_dynamic
 returns-in_err-table g c =
     let p = err_from_is_err_and c.from_residual.result c.from_residual.ensures.1 in
     rw (p.1, p.2) (ListingCalls-refused _ _ _ _ (search rules) (λ file held.
-    let viewed = views file _ _ _ (c.args.listing.now.loaded.belongs file held) c.args.listing.now.viewed held (omega (arith, c.requires.below)) in
+    let viewed = views file _ _ _ (c.args.listing.now.loaded.belongs file held) c.args.listing.now.viewed held (some_of c.requires.below) in
     let view : HoldsProgramHeaders file c.view-view.result.loaded c.view-view.result.store.now = rw (c.view-view.ensures.loaded, c.view-view.ensures.store) viewed in
     let is_at = c.segment.ensures.is_at file view in
     let kind = sym is_at.p_type ∙ c.if-segment-ne-PT_DYNAMIC.false in
@@ -80,7 +81,7 @@ returns g c = record {
       let bytes : size_of c.in_ok-table.table ≡ c.in_ok-table.table.count * 16 = ap (λ n. c.in_ok-table.table.count * n) c.in_ok-table.ensures.lies.entry in
       SpentCredit-after _ _ _ _ _ _ _ _ _ _ (omega (arith, within, bytes)) c.in_ok-told.ensures.did.costs.reads c.list_rows.ensures.spent;
   shows = λ file held.
-      let viewed = views file _ _ _ (c.args.listing.now.loaded.belongs file held) c.args.listing.now.viewed held (omega (arith, c.requires.below)) in
+      let viewed = views file _ _ _ (c.args.listing.now.loaded.belongs file held) c.args.listing.now.viewed held (some_of c.requires.below) in
       let view : HoldsProgramHeaders file c.view-view.result.loaded c.view-view.result.store.now = rw (c.view-view.ensures.loaded, c.view-view.ensures.store) viewed in
       let kind = sym (c.segment.ensures.is_at file view).p_type ∙ c.if-segment-ne-PT_DYNAMIC.false in
       let found = segment_passes file (style_of c.args.listing.now.style) _ _ _ (sym (c.in_ok-table.ensures.held file view)) (c.in_ok-told.ensures.did.known file held) in

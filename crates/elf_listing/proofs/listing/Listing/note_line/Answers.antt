@@ -1,7 +1,8 @@
-use Rattle.std.proofs.Common.{Ok, false, true, refl, sym, ap, ◌∙◌, arith}
+use Rattle.std.proofs.Common.{Ok, false, true, refl, sym, ap, ◌∙◌}
 use Rattle.std.proofs.lemmas.Result.{err_from_is_err_and}
 use Rattle.elf_options.specs.Permitted.{style_of}
 use Rattle.elf_model.specs.Prelude.{LinePrefix, note_line, note_prefix, padded_size, place_of_record, placed_line}
+use Rattle.elf_listing.proofs.Amounts.{part_of}
 use Rattle.elf_listing.specs.Notes.{align_of}
 use Rattle.elf_listing.proofs.SelectionLaws.{placed-as}
 use Rattle.elf_listing.proofs.ListsLaws.{ListingCalls-nothing}
@@ -18,7 +19,7 @@ returns-in_err-show_note g c = record {
   keeps = record { same_src = refl; same_out = refl; same_file = refl; same_style = refl };
   spent =
       let p = err_from_is_err_and c.from_residual.result c.from_residual.ensures.1 in
-      rw (p.1, p.2) (SpendsAtMost-none _ _ _ _ (omega arith), c.in_err-show_note.ensures.fails);
+      rw (p.1, p.2) (SpendsAtMost-none _ _ _ _ (part_of _ _), c.in_err-show_note.ensures.fails);
   shows = λ given is.
       let p = err_from_is_err_and c.from_residual.result c.from_residual.ensures.1 in
       let here = place_of_record given.at (padded_size (align_of c.args.is_wide) given.note) in
@@ -37,7 +38,7 @@ pub returns : goal.returns
 returns g c = record {
   grows = c.in_ok-show_note.ensures.grows;
   keeps = record { same_src = refl; same_out = refl; same_file = refl; same_style = refl };
-  spent = (SpendsAtMost-none _ _ _ _ (omega arith), tt);
+  spent = (SpendsAtMost-none _ _ _ _ (part_of _ _), tt);
   shows = λ given is.
       let here = place_of_record given.at (padded_size (align_of c.args.is_wide) given.note) in
       let placed = placed-as c.args.self.now.style c.args.self.now.style _ here _ true refl (c.place_of_note-place.ensures ∙ note_place (align_of c.args.is_wide) _ given _ _ is) c.shows.ensures c.if-not-shows.false in

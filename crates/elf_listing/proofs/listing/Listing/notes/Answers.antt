@@ -6,6 +6,7 @@ use Rattle.elf_model.specs.Prelude.{note_align, slice}
 use Rattle.elf_note.proofs.HeldLaws.{still_held}
 use Rattle.elf_note.proofs.SpendsLaws.{SpendsAtMost-none}
 use Rattle.elf_table.proofs.OpenLaws.{still_open}
+use Rattle.elf_listing.proofs.Amounts.{part_of}
 use Rattle.elf_listing.proofs.LoopLaws.{account_kept, at_most, spent_unread, step_last, step_more, step_stopped}
 use Rattle.elf_listing.proofs.ViewedLaws.{still_viewed}
 use Rattle.elf_note.specs.NoteCursors.{notes_from, notes_left}
@@ -23,7 +24,7 @@ notes-init g c =
       same_align = n.its_align;
       not_failed = n.not_failed;
       keeps = record { same_src = refl; same_out = refl; same_file = refl; same_style = refl };
-      spends = SpendsAtMost-none _ _ _ _ (omega arith);
+      spends = SpendsAtMost-none _ _ _ _ (part_of _ _);
       asked = omega (arith, unread);
       agrees = λ file held. rw n.ahead refl;
       grows = grows_not _;

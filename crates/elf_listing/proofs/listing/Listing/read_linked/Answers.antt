@@ -9,6 +9,7 @@ use Rattle.elf_note.proofs.WordLaws.{none-of}
 use Rattle.elf_note.proofs.SpendsLaws.{SpendsAtMost-none, SpendsAtMost-then}
 use Rattle.elf_table.proofs.OpenLaws.{still_open}
 use Rattle.elf_table.specs.declared.names.NameEnd.{NameEnd}
+use Rattle.elf_listing.proofs.Amounts.{part_of}
 use Rattle.elf_listing.proofs.ViewedLaws.{still_viewed}
 use Rattle.elf_table.specs.Prelude.{symbols_linked}
 use Rattle.elf_listing.proofs.LocatedShown.{among_zero, read_among, refuses_among}
@@ -20,7 +21,7 @@ returns-in_err-found g c =
     let p = err_from_is_err_and c.from_residual.result c.from_residual.ensures.1 in
     rw (p.1, p.2)
     (record {
-      fetches = (record { same_src = refl; same_out = refl; same_file = refl; same_style = refl }, refl, SpendsAtMost-none _ _ _ _ (omega arith), grind (arith, c.in_err-found.ensures.refusal));
+      fetches = (record { same_src = refl; same_out = refl; same_file = refl; same_style = refl }, refl, SpendsAtMost-none _ _ _ _ (part_of _ _), grind (arith, c.in_err-found.ensures.refusal));
       read = λ file header held linked. refuses_named file c.args.self.now.style.cap.bytes header c.args.at c.args.symbol _ (c.in_err-found.ensures.held file header linked);
       among = λ file held. refuses_among file c.args.self.now.style.cap.bytes c.args.at c.args.symbol c.args.linked _ c.in_err-found.ensures.among;
       defined = λ file header held linked some. tt;
@@ -28,7 +29,7 @@ returns-in_err-found g c =
 
 pub returns-in_default : goal.returns-in_default
 returns-in_default g c = record {
-  fetches = (record { same_src = refl; same_out = refl; same_file = refl; same_style = refl }, refl, SpendsAtMost-none _ _ _ _ (omega arith), tt);
+  fetches = (record { same_src = refl; same_out = refl; same_file = refl; same_style = refl }, refl, SpendsAtMost-none _ _ _ _ (part_of _ _), tt);
   read = λ file header held linked.
       let zero = rw (none-of _ c.in_default.not-Some) at (c.in_ok-found.ensures.held file header linked) in
       rw (named_zero file c.args.self.now.style.cap.bytes header c.args.at c.args.symbol zero) (ap (λ name. Ok (Whole name)) (sym c.clear.ensures));

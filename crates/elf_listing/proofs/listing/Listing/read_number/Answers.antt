@@ -1,12 +1,13 @@
 -- The name is looked up in the string table of the record that names the version index.
 use Rattle.std.proofs.Common.{rules, ◌<◌, length, refl, sym, ◌∙◌, arith}
 use Rattle.elf_note.proofs.SpendsLaws.{SpendsAtMost-none}
+use Rattle.elf_listing.proofs.Amounts.{part_of}
 use Rattle.elf_listing.proofs.SuffixNumbers.{told_defined, told_needed, told_nowhere}
 use Rattle.elf_listing.proofs.listing.Listing.read_number.Goals as goal
 
 pub returns-in-Nowhere : goal.returns-in-Nowhere
 returns-in-Nowhere g c = record {
-  fetches = (record { same_src = refl; same_out = refl; same_file = refl; same_style = refl }, refl, SpendsAtMost-none _ _ _ _ (omega arith), rw c.refused.ensures (search rules));
+  fetches = (record { same_src = refl; same_out = refl; same_file = refl; same_style = refl }, refl, SpendsAtMost-none _ _ _ _ (part_of _ _), rw c.refused.ensures (search rules));
   kept = refl;
   read = λ file held numbered many.
       rw c.refused.ensures

@@ -3,6 +3,7 @@ use Rattle.std.proofs.Common.{◌≡◌, ◌+◌, ◌*◌, Ok, false, true, refl
 use Rattle.std.proofs.lemmas.Result.{err_from_is_err_and}
 use Rattle.elf_options.specs.Permitted.{style_of}
 use Rattle.elf_model.specs.Prelude.{place_of_segment, segment_at, segment_line}
+use Rattle.elf_listing.proofs.Amounts.{part_of, some_of}
 use Rattle.elf_listing.proofs.RowLaws.{WroteSome-as, line-hidden, line-shown, Whole-line, WroteUntilStop-line}
 use Rattle.elf_listing.proofs.SelectionLaws.{placed-as}
 use Rattle.elf_listing.proofs.ListsLaws.{ListingCalls-nothing}
@@ -18,10 +19,10 @@ returns-in_err-put g c = record {
   keeps = record { same_src = refl; same_out = refl; same_file = refl; same_style = refl };
   spent =
       let p = err_from_is_err_and c.from_residual.result c.from_residual.ensures.1 in
-      rw (p.1, p.2) (SpendsAtMost-none _ _ _ _ (omega arith), c.in_err-put.ensures.puts.1);
+      rw (p.1, p.2) (SpendsAtMost-none _ _ _ _ (part_of _ _), c.in_err-put.ensures.puts.1);
   shows = λ file held.
       let p = err_from_is_err_and c.from_residual.result c.from_residual.ensures.1 in
-      let viewed = views file _ _ _ (c.args.self.now.loaded.belongs file held) c.args.self.now.viewed held (omega (arith, c.requires.below)) in
+      let viewed = views file _ _ _ (c.args.self.now.loaded.belongs file held) c.args.self.now.viewed held (some_of c.requires.below) in
       let is_at = c.segment-header.ensures.is_at file (rw (c.view.ensures.loaded, c.view.ensures.store) viewed) in
       let told = rw c.view-2.ensures.loaded at c.place-place.ensures.value in
       let at : c.place-place.result ≡ segment_at file c.args.segment = omega (arith, told, (c.args.self.now.loaded.belongs file held).header.e_phoff) in
@@ -35,9 +36,9 @@ pub returns : goal.returns
 returns g c = record {
   grows = record { bytes = _; takes = c.in_ok-put.ensures.puts.0 };
   keeps = record { same_src = refl; same_out = refl; same_file = refl; same_style = refl };
-  spent = (SpendsAtMost-none _ _ _ _ (omega arith), tt);
+  spent = (SpendsAtMost-none _ _ _ _ (part_of _ _), tt);
   shows = λ file held.
-      let viewed = views file _ _ _ (c.args.self.now.loaded.belongs file held) c.args.self.now.viewed held (omega (arith, c.requires.below)) in
+      let viewed = views file _ _ _ (c.args.self.now.loaded.belongs file held) c.args.self.now.viewed held (some_of c.requires.below) in
       let is_at = c.segment-header.ensures.is_at file (rw (c.view.ensures.loaded, c.view.ensures.store) viewed) in
       let told = rw c.view-2.ensures.loaded at c.place-place.ensures.value in
       let at : c.place-place.result ≡ segment_at file c.args.segment = omega (arith, told, (c.args.self.now.loaded.belongs file held).header.e_phoff) in
@@ -49,7 +50,7 @@ returns g c = record {
 
 pub returns-then-not-shows : goal.returns-then-not-shows
 returns-then-not-shows g c = ListingCalls-nothing _ _ _ _ (λ file held.
-    let viewed = views file _ _ _ (c.args.self.now.loaded.belongs file held) c.args.self.now.viewed held (omega (arith, c.requires.below)) in
+    let viewed = views file _ _ _ (c.args.self.now.loaded.belongs file held) c.args.self.now.viewed held (some_of c.requires.below) in
     let is_at = c.segment-header.ensures.is_at file (rw (c.view.ensures.loaded, c.view.ensures.store) viewed) in
     let told = rw c.view-2.ensures.loaded at c.place-place.ensures.value in
     let at : c.place-place.result ≡ segment_at file c.args.segment = omega (arith, told, (c.args.self.now.loaded.belongs file held).header.e_phoff) in

@@ -3,6 +3,7 @@ use Rattle.std.proofs.Common.{[], refl, sym, ◌∙◌, arith}
 use Rattle.std.proofs.lemmas.Result.{err_from_is_err_and}
 use Rattle.std.proofs.lemmas.Bool.{ne_eqb}
 use Rattle.elf_note.proofs.SpendsLaws.{SpendsAtMost-none}
+use Rattle.elf_listing.proofs.Amounts.{part_of}
 use Rattle.elf_listing.specs.Parts.{store_sections}
 use Rattle.elf_note.proofs.WordLaws.{none-of}
 use Rattle.elf_listing.proofs.SectionShown.{section_placed}
@@ -11,7 +12,7 @@ use Rattle.elf_listing.proofs.listing.Listing.suffixes.Goals as goal
 
 pub returns-then-symbols-eq0 : goal.returns-then-symbols-eq0
 returns-then-symbols-eq0 g c = record {
-  fetches = (record { same_src = refl; same_out = refl; same_file = refl; same_style = refl }, refl, SpendsAtMost-none _ _ _ _ (omega arith), tt);
+  fetches = (record { same_src = refl; same_out = refl; same_file = refl; same_style = refl }, refl, SpendsAtMost-none _ _ _ _ (part_of _ _), tt);
   within = tt;
   pays = tt;
   read = λ file held counted. no_symbols file c.args.table (sym counted ∙ c.if-symbols-eq0.true);
@@ -19,7 +20,7 @@ returns-then-symbols-eq0 g c = record {
 
 pub returns-in_default : goal.returns-in_default
 returns-in_default g c = record {
-  fetches = (record { same_src = refl; same_out = refl; same_file = refl; same_style = refl }, refl, SpendsAtMost-none _ _ _ _ (omega arith), tt);
+  fetches = (record { same_src = refl; same_out = refl; same_file = refl; same_style = refl }, refl, SpendsAtMost-none _ _ _ _ (part_of _ _), tt);
   within = tt;
   pays = tt;
   read = λ file held counted. unnumbered file c.args.table (sym (c.version_numbers_of.ensures.held file (c.args.self.now.loaded.belongs file held)) ∙ none-of _ c.in_default.not-Some);
@@ -30,7 +31,7 @@ returns-in_err-found g c =
     let p = err_from_is_err_and c.from_residual.result c.from_residual.ensures.1 in
     rw (p.1, p.2)
     (record {
-      fetches = (record { same_src = refl; same_out = refl; same_file = refl; same_style = refl }, refl, SpendsAtMost-none _ _ _ _ (omega arith), grind (arith, c.in_err-found.ensures.refusal));
+      fetches = (record { same_src = refl; same_out = refl; same_file = refl; same_style = refl }, refl, SpendsAtMost-none _ _ _ _ (part_of _ _), grind (arith, c.in_err-found.ensures.refusal));
       within = tt;
       pays = tt;
       read = λ file held counted.

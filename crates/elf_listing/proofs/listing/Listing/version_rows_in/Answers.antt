@@ -11,6 +11,7 @@ use Rattle.elf_table.specs.Tables.{strings_in}
 use Rattle.elf_note.specs.Reading.{unread, versions_left}
 use Rattle.elf_note.proofs.TakenLaws.{going-did, unread-fewer}
 use Rattle.elf_note.proofs.WordLaws.{none-of}
+use Rattle.elf_listing.proofs.Amounts.{part_of}
 use Rattle.elf_listing.specs.Versions.{records_cost}
 use Rattle.elf_listing.proofs.LoopLaws.{at_most, spent_unread, step_more, step_stopped}
 use Rattle.elf_listing.proofs.NotesShown.{before_all}
@@ -23,7 +24,7 @@ records-init g c = record {
   going = c.requires.going;
   same_held = refl;
   keeps = record { same_src = refl; same_out = refl; same_file = refl; same_style = refl };
-  spends = SpendsAtMost-none _ _ _ _ (omega arith);
+  spends = SpendsAtMost-none _ _ _ _ (part_of _ _);
   asked = omega arith;
   agrees = λ file held agrees. agrees;
   grows = grows_not _;

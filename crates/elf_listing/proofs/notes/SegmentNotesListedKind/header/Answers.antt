@@ -5,6 +5,7 @@ use Rattle.std.proofs.lemmas.Bool.{eq-eqb, ne_eqb}
 use Rattle.std.proofs.lemmas.Result.{err_from_is_err_and}
 use Rattle.elf_model.specs.Prelude.{note_align, p_align, p_filesz, segment_at, segment_notes, slice, walk_rows, walked}
 use Rattle.elf_table.specs.Prelude.{TableRange}
+use Rattle.elf_listing.proofs.Amounts.{some_of}
 use Rattle.elf_listing.specs.Parts.{store_segments}
 use Rattle.elf_listing.proofs.RowLaws.{WroteSome-as}
 use Rattle.elf_listing.proofs.SectionCosts.{range_within}
@@ -16,7 +17,7 @@ use Rattle.elf_listing.proofs.notes.SegmentNotesListedKind.header.Goals as goal
 pub returns-then-header-ne-PT_NOTE : goal.returns-then-header-ne-PT_NOTE
 unfolding segment_notes
 returns-then-header-ne-PT_NOTE g c = ListingCalls-nothing _ _ _ _ (λ file held.
-    let viewed = views file _ _ _ (c.args.listing.now.loaded.belongs file held) c.args.listing.now.viewed held (omega (arith, c.requires.below)) in
+    let viewed = views file _ _ _ (c.args.listing.now.loaded.belongs file held) c.args.listing.now.viewed held (some_of c.requires.below) in
     let is_at = c.segment-header.ensures.is_at file (rw (c.view.ensures.loaded, c.view.ensures.store) viewed) in
     no_table segment_notes file _ _ _ _ (ne_eqb _ _ (λ same. c.if-header-ne-PT_NOTE.true (is_at.p_type ∙ same))))
 
@@ -26,7 +27,7 @@ returns-in_err-table g c =
     let p = err_from_is_err_and c.from_residual.result c.from_residual.ensures.1 in
     rw (p.1, p.2) (ListingCalls-refused _ _ _ _ (search rules) (λ file held.
     let belongs = c.args.listing.now.loaded.belongs file held in
-    let viewed = views file _ _ _ belongs c.args.listing.now.viewed held (omega (arith, c.requires.below)) in
+    let viewed = views file _ _ _ belongs c.args.listing.now.viewed held (some_of c.requires.below) in
     let is_at = c.segment-header.ensures.is_at file (rw (c.view.ensures.loaded, c.view.ensures.store) viewed) in
     let at = segment_at file c.args.index in
     let kind = sym is_at.p_type ∙ c.if-header-ne-PT_NOTE.false in
@@ -46,7 +47,7 @@ returns g c =
     let value = rw (fields.p_offset, fields.p_filesz) at c.in_ok-table.ensures.value in
     ListingCalls-within _ _ _ _ _ _ _ (range_within segment_notes (store_segments f.store.now) c.args.index f.loaded.size _ _ _ cap (λ n. n) _ (eq-eqb _ _ kind) refl refl (omega arith) value) c.notes.ensures (λ file held.
     let belongs = c.args.listing.now.loaded.belongs file held in
-    let viewed = views file _ _ _ belongs c.args.listing.now.viewed held (omega (arith, c.requires.below)) in
+    let viewed = views file _ _ _ belongs c.args.listing.now.viewed held (some_of c.requires.below) in
     let is_at = c.segment-header.ensures.is_at file (rw (c.view.ensures.loaded, c.view.ensures.store) viewed) in
     let at = segment_at file c.args.index in
     let kind = sym is_at.p_type ∙ c.if-header-ne-PT_NOTE.false in

@@ -2,6 +2,7 @@ use Rattle.std.proofs.Common.{Ok, false, true, refl, ◌≡◌, ◌+◌, ◌*◌
 use Rattle.std.proofs.lemmas.Result.{err_from_is_err_and}
 use Rattle.elf_options.specs.Permitted.{style_of}
 use Rattle.elf_model.specs.Prelude.{e_phoff, place_of_segment, segment_line}
+use Rattle.elf_listing.proofs.Amounts.{part_of}
 use Rattle.elf_listing.proofs.RowLaws.{WroteSome-as, line-hidden, line-shown, segment_is, Whole-line, WroteUntilStop-line}
 use Rattle.elf_listing.proofs.SelectionLaws.{placed-as}
 use Rattle.elf_listing.proofs.ListsLaws.{ListingCalls-nothing}
@@ -16,7 +17,7 @@ returns-in_err-put-clause-lists g c = record {
   keeps = record { same_src = refl; same_out = refl; same_file = refl; same_style = refl };
   spent =
       let p = err_from_is_err_and c.from_residual.result c.from_residual.ensures.1 in
-      rw (p.1, p.2) (SpendsAtMost-none _ _ _ _ (omega arith), c.in_err-put.ensures.puts.1);
+      rw (p.1, p.2) (SpendsAtMost-none _ _ _ _ (part_of _ _), c.in_err-put.ensures.puts.1);
   shows = λ file held at of_kind row.
       let p = err_from_is_err_and c.from_residual.result c.from_residual.ensures.1 in
       let decoded = c.decode-header.ensures.is_at file c.args.row.now.at (c.whole.ensures ∙ row.bytes) in
@@ -30,7 +31,7 @@ pub returns-clause-lists : goal.returns-clause-lists
 returns-clause-lists g c = record {
   grows = record { bytes = _; takes = c.in_ok-put.ensures.puts.0 };
   keeps = record { same_src = refl; same_out = refl; same_file = refl; same_style = refl };
-  spent = (SpendsAtMost-none _ _ _ _ (omega arith), tt);
+  spent = (SpendsAtMost-none _ _ _ _ (part_of _ _), tt);
   shows = λ file held at of_kind row.
       let decoded = c.decode-header.ensures.is_at file c.args.row.now.at (c.whole.ensures ∙ row.bytes) in
       let here : c.args.row.now.at ≡ e_phoff file + c.args.row.now.index * 56 = omega (arith, of_kind, row.here) in

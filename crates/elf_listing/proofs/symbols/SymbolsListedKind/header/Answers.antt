@@ -20,7 +20,7 @@ pub returns-then-not-holds_symbols : goal.returns-then-not-holds_symbols
 returns-then-not-holds_symbols g c = ListingCalls-nothing _ _ _ _ (λ file held.
     let versions = c.args.listing.now.style.versions in
     let is_at = c.section-header.ensures.is_at file (c.args.listing.now.loaded.belongs file held) in
-    let kind : is_symbol_table file (section_at file c.args.index) ≡ false = let is = c.holds_symbols.ensures file _ is_at in cc in
+    let kind : is_symbol_table file (section_at file c.args.index) ≡ false = sym (c.holds_symbols.ensures file _ is_at) ∙ c.if-not-holds_symbols.true in
     no_table (symbols_kind versions) file _ _ _ _ (symbols_have versions file _ ∙ kind))
 
 pub returns-in_err-found : goal.returns-in_err-found
@@ -30,13 +30,13 @@ returns-in_err-found g c =
     let versions = c.args.listing.now.style.versions in
     let belongs = c.args.listing.now.loaded.belongs file held in
     let at = section_at file c.args.index in
-    let kind : is_symbol_table file at ≡ true = let is = c.holds_symbols.ensures file at (c.section-header.ensures.is_at file belongs) in cc in
+    let kind : is_symbol_table file at ≡ true = sym (c.holds_symbols.ensures file at (c.section-header.ensures.is_at file belongs)) ∙ c.if-not-holds_symbols.false in
     table_fails (symbols_kind versions) file _ _ at (symbols_have versions file at ∙ kind) _ _ (rw (symbols_checks versions) (symbols-fail file at _ (sym (c.in_err-found.ensures.held file belongs))))))
 
 pub list_with_versions-requires : goal.list_with_versions-requires
 list_with_versions-requires g c = record {
-  kind = let is = c.holds_symbols.ensures _ 0 c.section-header.ensures.fields in cc;
-  typed = λ file belongs. let is = c.holds_symbols.ensures file _ (c.section-header.ensures.is_at file belongs) in cc;
+  kind = sym (c.holds_symbols.ensures _ 0 c.section-header.ensures.fields) ∙ c.if-not-holds_symbols.false;
+  typed = λ file belongs. sym (c.holds_symbols.ensures file _ (c.section-header.ensures.is_at file belongs)) ∙ c.if-not-holds_symbols.false;
   dynamic = λ file belongs. ap (λ (type : ℕ). type == 11) (c.section-header.ensures.is_at file belongs).sh_type;
   held = c.in_ok-found.ensures.held;
   table = c.in_ok-found.ensures.table;
@@ -52,12 +52,12 @@ unfolding symbols
 returns g c =
     let f = c.args.listing.now.file in
     let bytes = row f.store.now c.args.index in
-    let kind : is_symbol_table bytes 0 ≡ true = let is = c.holds_symbols.ensures bytes 0 c.section-header.ensures.fields in cc in
+    let kind : is_symbol_table bytes 0 ≡ true = sym (c.holds_symbols.ensures bytes 0 c.section-header.ensures.fields) ∙ c.if-not-holds_symbols.false in
     let plain = ListingCalls-within _ _ _ _ _ _ _ (table_plain _ _ _ _ (section_within symbols f.store.now c.args.index f.loaded.size _ c.args.listing.now.style.cap.bytes 24 _ _ kind refl refl c.in_ok-found.ensures.table)) c.list_rows.ensures (λ file held.
     let belongs = c.args.listing.now.loaded.belongs file held in
     let at = section_at file c.args.index in
     let style = style_of c.args.listing.now.style in
-    let kind : is_symbol_table file at ≡ true = let is = c.holds_symbols.ensures file at (c.section-header.ensures.is_at file belongs) in cc in
+    let kind : is_symbol_table file at ≡ true = sym (c.holds_symbols.ensures file at (c.section-header.ensures.is_at file belongs)) ∙ c.if-not-holds_symbols.false in
     let found = symbols-pass file at _ (sym (c.in_ok-found.ensures.held file belongs)) in
     WroteSome-as _ _ _ (table_passes symbols file style c.args.index at kind found.0 ∙ ap (each (symbol_row file style c.args.index at) 0) (sym found.1.counted))
     (c.list_rows.ensures.shows file held (λ some. (ap (λ (n : StringTableRange). slice file n.at n.size) (found.1.named some), found.1.placed, tt, ap (λ (type : ℕ). type == 11) (c.section-header.ensures.is_at file belongs).sh_type)))) in
