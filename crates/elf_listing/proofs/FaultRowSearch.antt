@@ -1,6 +1,6 @@
 -- The row at an offset is in the first table in the store that has it.
 use Rattle.std.proofs.Common.{◌≡◌, ℕ, ◌<◌, Bool, true, false, Option, None, Some, refl, sym, ap, ◌∙◌, arith}
-use Rattle.elf_model.specs.Prelude.{entry_number, first_that, header_field, is_in_section, is_in_segment, listed_range, p_offset, p_type, range_has, row_in_segments, row_in_tables, section_entry_size, segment_entry_size, sh_offset, sh_type}
+use Rattle.elf_model.specs.Prelude.{entry_number, header_field, is_in_section, is_in_segment, listed_range, p_offset, p_type, range_has, row_in_segments, row_in_tables, section_entry_size, segment_entry_size, sh_offset, sh_type}
 use Rattle.elf_model.specs.declared.fault_rows.FaultRow.{FaultRow}
 use Rattle.elf_model.specs.declared.fault_rows.FaultRow.TheVariants.{NoRow, Section, Segment}
 use Rattle.elf_model.proofs.LookupSteps.{first_that-none, first_that-some}

@@ -1,8 +1,7 @@
 -- The items of a whole listing: the file header's, and what follows it.
 use Rattle.std.proofs.lemmas.Bool.{cases_Bool, eqb-true, or_left, or_right}
 use Rattle.std.proofs.Common.{◌≡◌, ℕ, ◌==◌, ◌||◌, inl, inr, true, List, [], ◌∷◌, ◌++◌, None, Err, false, sym, ap, ◌∙◌, refl, append-nil, append_assoc}
-use Rattle.elf_model.specs.Prelude.{DYNAMIC, e_phnum, e_shnum, each, Fault, fault_of, file_sections, file_segments, first_refusal, has, has_tables, HEADER, header_checks, header_row, HeaderTable, IsBudgetRefusal, kinds_rows, known_parts, lies_in_segments, listing, ListingItem, ListingStyle, load_checks, load_items, loaded_items, located_items, NOTES, records_rows, segment_dynamic, segment_kinds, segment_notes, segment_row, SEGMENTS, symbol_versions, table_headers, table_items, table_rows, TableHeaders, TableKind, version_definitions, version_needs, VERSIONS, view_checks, viewed as view_of, where_asked}
-use Rattle.elf_model.specs.declared.formats.Format.{Format}
+use Rattle.elf_model.specs.Prelude.{e_phnum, e_shnum, each, Fault, fault_of, file_sections, file_segments, first_refusal, has, has_tables, HEADER, header_checks, header_row, HeaderTable, IsBudgetRefusal, kinds_rows, known_parts, lies_in_segments, listing, ListingItem, ListingStyle, load_checks, load_items, loaded_items, located_items, records_rows, segment_dynamic, segment_kinds, segment_notes, segment_row, SEGMENTS, symbol_versions, table_headers, table_items, table_rows, TableHeaders, TableKind, version_definitions, version_needs, VERSIONS, view_checks, viewed as view_of, where_asked}
 use Rattle.elf_model.specs.declared.causes.Refusal.{Refusal}
 use Rattle.elf_model.proofs.VersionNameLaws.{back-none, front-none, records-none}
 use Rattle.elf_model.proofs.CostLemmas.{headers_none, headers_some}

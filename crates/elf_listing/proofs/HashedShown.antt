@@ -1,8 +1,7 @@
 -- The symbols that dynamic entries locate.
-use Rattle.std.proofs.Common.{◌≡◌, ℕ, zero, suc, ◌+◌, ◌*◌, ◌/◌, ◌<◌, ◌≤◌, true, List, [], None, Some, Result, Ok, refl, sym, ap, ◌∙◌, arith}
-use Rattle.std.proofs.Math.Nat.{mul-le-mul_left, mul-le-mul_right}
+use Rattle.std.proofs.Common.{◌≡◌, ℕ, zero, suc, ◌+◌, ◌*◌, ◌/◌, ◌<◌, ◌≤◌, true, List, [], None, Some, Ok, refl, sym, ap, ◌∙◌, arith}
+use Rattle.std.proofs.Math.Nat.{mul-le-mul_right}
 use Rattle.elf_model.specs.Prelude.{HashStyle, LinePrefix, ListingItem, ListingStyle, LookupTables as IsScopeOf, chosen_row, class_choice, counted_rows, e_machine, each, first_refusal, guarded, hash_row, hashed_symbol_row, hashed_symbol_rows, name_bytes, rows_by_hash, segment_checks, segment_lookup_tables, segment_symbol_rows, shown, st_name, symbol_prefix, symbols_hashed, table_most}
-use Rattle.elf_model.specs.declared.causes.Refusal.{Refusal}
 use Rattle.elf_model.proofs.ListingLemmas.{guarded-passes}
 use Rattle.elf_source.specs.Output.{OutState}
 use Rattle.elf_table.specs.Prelude.{RefusedBy, stop_of}

@@ -1,8 +1,8 @@
 -- What dynamic entries locate, table by table.
-use Rattle.std.proofs.Common.{◌≡◌, ◌≢◌, ℕ, ◌+◌, ◌*◌, ◌/◌, ◌<◌, ◌≤◌, ◌==◌, ◌&&◌, ◌||◌, nat_lt, if◌then◌else◌, Bool, true, false, List, [], ◌∷◌, ◌++◌, Option, None, Some, Result, Ok, Err, refl, sym, ap, subst, ◌∙◌, arith}
+use Rattle.std.proofs.Common.{◌≡◌, ◌≢◌, ℕ, ◌+◌, ◌*◌, ◌/◌, ◌<◌, ◌≤◌, ◌==◌, ◌&&◌, ◌||◌, if◌then◌else◌, Bool, true, false, List, [], ◌∷◌, ◌++◌, Option, None, Some, Result, Ok, Err, refl, sym, ap, subst, ◌∙◌, arith}
 use Rattle.std.proofs.Math.Nat.{mul-add, mul-le-mul, mul-le-mul_left}
 use Rattle.std.proofs.lemmas.Bool.{le-ltb, lt-ltb, ne_eqb}
-use Rattle.elf_model.specs.Prelude.{Check, DisplayedName, Fault as FaultItem, LinePrefix, ListingItem, ListingStyle, LocatedSymbols, LocatedTable as IsLocated, RELOCS, SEGMENTS, SYMBOLS, chosen_row, dynamic_segment_index, dynamic_tables, e_machine, e_phnum, each, entries_rows, first_refusal, first_segment_tables, follows_dynamic, form_rows, form_size, guarded, has, has_located, lies_in_segments, located_items, located_row, located_rows, located_symbols, located_table, locates_tables, name_bytes, named_among, no_name, overlap_checks, p_filesz, p_offset, r_sym, relocation_choice, relocation_prefix, relocation_size, relocation_table_rows, relr_rows_at, segment_at, segment_dynamic_checks, segment_relocations, segment_symbol_rows, segment_tables, shown, st_name, table_most, where_asked}
+use Rattle.elf_model.specs.Prelude.{Check, DisplayedName, Fault as FaultItem, LinePrefix, ListingItem, ListingStyle, LocatedSymbols, LocatedTable as IsLocated, RELOCS, SYMBOLS, chosen_row, dynamic_segment_index, dynamic_tables, e_machine, each, entries_rows, first_refusal, first_segment_tables, follows_dynamic, form_rows, form_size, guarded, has, has_located, located_items, located_row, located_rows, located_symbols, located_table, locates_tables, name_bytes, named_among, no_name, overlap_checks, p_filesz, p_offset, r_sym, relocation_choice, relocation_prefix, relocation_size, relocation_table_rows, relr_rows_at, segment_at, segment_dynamic_checks, segment_relocations, segment_symbol_rows, segment_tables, shown, st_name, table_most, where_asked}
 use Rattle.elf_model.specs.declared.causes.Cause.TheVariants.{BadLink, SymbolIndex}
 use Rattle.elf_model.specs.declared.causes.Cause.{Cause}
 use Rattle.elf_model.specs.declared.causes.Refusal.{Refusal}

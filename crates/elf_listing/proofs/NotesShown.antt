@@ -1,6 +1,6 @@
 -- The notes of a table, by the notes that are left.
-use Rattle.std.proofs.Common.{◌≡◌, ◌<◌, ◌≤◌, ◌⊎◌, min, ℕ, ◌+◌, zero, suc, Bool, true, Option, None, Some, Ok, List, [], ◌∷◌, ◌++◌, inl, inr, length, drop, refl, sym, ap, ◌∙◌, arith, append_assoc, append-nil, add-zero, zero-add}
-use Rattle.elf_model.specs.Prelude.{DisplayedName, Fault as FaultItem, Line, ListingItem, ListingStyle, NextNote, Note, NoteRow as FileNote, NoteScan, OneNote, bytes_to_alignment, descriptor_start, next_note, note_line, note_prefix, note_row, note_rows, note_shown, notes_rows, padded_size, place_of_record, placed_line, slice, walk_from, walk_rows, walked, with_note}
+use Rattle.std.proofs.Common.{◌≡◌, ◌<◌, ◌≤◌, ◌⊎◌, ℕ, ◌+◌, zero, suc, Bool, true, Option, None, Some, Ok, List, [], ◌∷◌, ◌++◌, inl, inr, length, drop, refl, sym, ap, ◌∙◌, arith, append_assoc, append-nil, add-zero, zero-add}
+use Rattle.elf_model.specs.Prelude.{DisplayedName, Fault as FaultItem, ListingItem, ListingStyle, NextNote, Note, NoteRow as FileNote, NoteScan, OneNote, bytes_to_alignment, descriptor_start, next_note, note_line, note_prefix, note_row, note_rows, note_shown, notes_rows, padded_size, place_of_record, placed_line, slice, walk_from, walk_rows, walked, with_note}
 use Rattle.elf_model.specs.declared.causes.Cause.TheVariants.{NoteCut}
 use Rattle.elf_model.specs.Notes.{Ends as EndsHere, Broken}
 use Rattle.elf_model.proofs.NoteLaws.{nothing-ends, walked-is}

@@ -1,7 +1,7 @@
 -- The rows of words of relative relocations.
 use Rattle.std.proofs.Common.{◌≡◌, ℕ, ◌+◌, ◌-◌, ◌*◌, ◌/◌, ◌%◌, ◌^◌, ◌<◌, ◌≤◌, ◌==◌, ◌||◌, ◌++◌, length, if◌then◌else◌, Bool, true, false, List, [], ◌∷◌, suc, Option, None, Some, Result, Ok, Err, refl, sym, ap, ◌∙◌, arith}
 use Rattle.std.proofs.lemmas.Bool.{eqb-true, le-ltb, lt-ltb}
-use Rattle.elf_model.specs.Prelude.{Fault as FaultItem, LAST_ADDRESS, ListingItem, ListingStyle, all_checks, base_after, bit_row, bitmap_base, chosen_row, each, entry_count, field, first_refusal, guarded, relr_table, sh_size, unless_empty, either_kind, entries_kind, entry_at, gnu_relocations, relative_relocations, sh_type, no_name, place_of_relr, placed_choice, relr_prefix, relr_row, relr_rows, relr_rows_at, relr_word, section_at, sh_offset, slice, table_checks, table_cost, table_rows, word_rows}
+use Rattle.elf_model.specs.Prelude.{Fault as FaultItem, LAST_ADDRESS, ListingItem, ListingStyle, all_checks, base_after, bit_row, bitmap_base, chosen_row, each, entry_count, field, first_refusal, guarded, relr_table, sh_size, unless_empty, either_kind, entries_kind, gnu_relocations, relative_relocations, sh_type, no_name, place_of_relr, placed_choice, relr_prefix, relr_row, relr_rows, relr_rows_at, relr_word, section_at, sh_offset, slice, table_checks, table_cost, table_rows, word_rows}
 use Rattle.elf_model.specs.HeaderTables.{TableKind}
 use Rattle.elf_model.specs.declared.causes.Cause.TheVariants.{Relr}
 use Rattle.elf_model.proofs.RelativeKinds.{either_costs, entries_have}

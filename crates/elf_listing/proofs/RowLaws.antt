@@ -1,5 +1,5 @@
 -- The items of one row, by the line that was written.
-use Rattle.elf_model.specs.Prelude.{DisplayedName, Fault as FaultItem, IsBudgetRefusal, Line, LinePrefix, ListingItem, ListingStyle, NoSuffix, RowFilter, Suffix, chooses, chosen_row, e_machine, e_phoff, entry_at, lines_of, named_row, place_of_segment, placed_line, r_sym, relocation_choice, relocation_prefix, relocation_row, relocation_size, section_at, segment_at, segment_line, segment_row, sh_offset, shown, shows_place, st_name, strings_of, symbol_choice, symbol_named, symbol_prefix, symbol_row}
+use Rattle.elf_model.specs.Prelude.{DisplayedName, Fault as FaultItem, IsBudgetRefusal, Line, LinePrefix, ListingItem, ListingStyle, NoSuffix, RowFilter, chooses, chosen_row, e_machine, e_phoff, entry_at, lines_of, named_row, place_of_segment, placed_line, r_sym, relocation_choice, relocation_prefix, relocation_row, relocation_size, section_at, segment_at, segment_line, segment_row, sh_offset, shown, shows_place, st_name, strings_of, symbol_choice, symbol_named, symbol_prefix, symbol_row}
 use Rattle.elf_model.specs.declared.causes.Cause.{Cause}
 use Rattle.elf_model.specs.declared.causes.Refusal.{Refusal}
 use Rattle.elf_model.specs.declared.place_filters.RowPlace.{RowPlace}

@@ -1,6 +1,6 @@
 -- The items of one program header, by what the store and the checks of a viewed file return.
 use Rattle.elf_model.specs.Prelude.{ListingStyle, place_of_segment, placed_line, segment_at, segment_line, segment_row}
-use Rattle.std.proofs.Common.{◌≡◌, ℕ, ◌<◌, List, [], ◌∷◌, Option, Some, sym, ap}
+use Rattle.std.proofs.Common.{◌≡◌, ℕ, ◌<◌, List, Option, Some, sym, ap}
 use Rattle.elf_table.specs.Prelude.{HoldsProgramHeaders, HoldsSectionHeaders, LoadedFile, StoreState}
 use Rattle.elf_listing.specs.Viewed.{IsViewed}
 

@@ -1,6 +1,6 @@
 -- The parts of a listing after the file header: what is listed of each section, and how much is
 -- read.
-use Rattle.std.specs.Prelude.{ℕ, ◌+◌, ◌-◌, ◌*◌, ◌/◌, ◌==◌, ◌&&◌, ◌≡◌, not, Bool, false, List, [], ◌∷◌, length, take, Option, None, Some, Result}
+use Rattle.std.specs.Prelude.{ℕ, ◌+◌, ◌-◌, ◌*◌, ◌==◌, ◌&&◌, ◌≡◌, not, Bool, false, List, [], ◌∷◌, length, take, Option, None, Some, Result}
 use Rattle.elf_model.specs.Prelude.{DisplayedName, HeaderTable, ListingItem, ListingStyle, RELOCS, SECTIONS, SEGMENTS, SYMBOLS, TableKind, cost_where, each, either_kind, fault_of, follows_dynamic, has, has_located, held_headers, located_count, name_bytes, no_name, records_rows, relative_relocations, section_at, section_kinds, section_row, segment_at, segment_kinds, segment_row, shown, sum_over, symbol_versions, table_cost, table_most, table_rows, version_definitions, version_needs}
 use Rattle.elf_model.specs.TableKinds.{entries_kind, relocations_kind, symbols_kind}
 use Rattle.elf_model.specs.declared.causes.Cause.{Cause}

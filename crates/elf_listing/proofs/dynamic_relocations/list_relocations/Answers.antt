@@ -1,9 +1,9 @@
 -- The tables in their order.
-use Rattle.std.proofs.Common.{◌+◌, ◌*◌, ℕ, List, refl, ap, sym, ◌∙◌, arith}
+use Rattle.std.proofs.Common.{◌*◌, ℕ, List, arith}
 use Rattle.std.proofs.lemmas.Result.{err_from_is_err_and}
 use Rattle.elf_model.specs.Prelude.{ListingItem, relocation_table_rows, segment_at, table_most}
 use Rattle.elf_model.specs.declared.relocation_tables.RelocationTable.{RelocationTable}
-use Rattle.elf_model.specs.declared.relocation_tables.RelocationTable.TheVariants.{Jmprel, Rel, Rela, Relr}
+use Rattle.elf_model.specs.declared.relocation_tables.RelocationTable.TheVariants.{Jmprel, Rel, Rela}
 use Rattle.elf_options.specs.Permitted.{style_of}
 use Rattle.elf_options.specs.declared.caps.ListingStyle.{ListingStyle}
 use Rattle.elf_table.specs.declared.file.SectionView.{SectionView}

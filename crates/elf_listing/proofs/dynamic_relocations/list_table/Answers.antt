@@ -1,5 +1,5 @@
 -- The table is located before its rows.
-use Rattle.std.proofs.Common.{◌≡◌, ◌≤◌, ◌*◌, Ok, refl, ap, ◌∙◌, arith}
+use Rattle.std.proofs.Common.{◌≡◌, ◌≤◌, ◌*◌, Ok, ap, ◌∙◌, arith}
 use Rattle.std.proofs.lemmas.Result.{err_from_is_err_and}
 use Rattle.elf_options.specs.Permitted.{style_of}
 use Rattle.elf_model.specs.Prelude.{form_size, segment_at}

@@ -1,5 +1,5 @@
 -- The words of flags are fewer than the name holds.
-use Rattle.std.proofs.Common.{rules, ◌≡◌, ℕ, ◌≤◌, List, ◌++◌, length, take, sym, ap, ap₂, subst, ◌∙◌, arith}
+use Rattle.std.proofs.Common.{rules, ◌≡◌, ℕ, ◌≤◌, List, ◌++◌, length, take, sym, ap, ap₂, subst, ◌∙◌}
 use Rattle.std.proofs.lemmas.List.{take_all}
 use Rattle.elf_model.specs.Prelude.{d_tag, d_un, flag_words, value_text}
 use Rattle.elf_model.specs.declared.formats.Format.{Format}

@@ -1,6 +1,6 @@
 -- The part is listed if it is asked for.
-use Rattle.std.proofs.Common.{◌≡◌, ℕ, Ok, refl, sym, ◌∙◌, arith}
-use Rattle.elf_model.specs.Prelude.{RELOCS, segment_at}
+use Rattle.std.proofs.Common.{Ok, sym, ◌∙◌, arith}
+use Rattle.elf_model.specs.Prelude.{RELOCS}
 use Rattle.elf_listing.proofs.ListsLaws.{ListingCalls-nothing, ListingCalls-within}
 use Rattle.elf_listing.proofs.LocatedShown.{part_asked, part_none}
 use Rattle.elf_listing.proofs.RowLaws.{WroteSome-as}

@@ -1,6 +1,6 @@
 -- The LOAD segments, then the first segment of dynamic entries.
 use Rattle.elf_options.specs.Permitted.{style_of}
-use Rattle.std.proofs.Common.{◌≡◌, Ok, refl, sym, ◌∙◌, arith}
+use Rattle.std.proofs.Common.{Ok, sym, ◌∙◌, arith}
 use Rattle.std.proofs.lemmas.Result.{err_from_is_err_and}
 use Rattle.elf_table.proofs.Absent.{none-of}
 use Rattle.elf_hash.proofs.FoundLaws.{index_is}

@@ -1,10 +1,9 @@
 -- The checks of the segment and the pass over its entries come before the tables.
-use Rattle.elf_options.specs.Permitted.{style_of}
-use Rattle.std.proofs.Common.{rules, ◌≡◌, ◌≤◌, ◌*◌, refl, sym, ap, ◌∙◌, arith}
+use Rattle.std.proofs.Common.{rules, refl, sym, ap, ◌∙◌, arith}
 use Rattle.std.proofs.lemmas.Result.{err_from_is_err_and}
 use Rattle.elf_model.proofs.ListingLemmas.{guarded-passes}
 use Rattle.elf_model.specs.Prelude.{segment_at, segment_dynamic_checks}
-use Rattle.elf_table.specs.Prelude.{HoldsProgramHeaders, TableRange, size_of}
+use Rattle.elf_table.specs.Prelude.{HoldsProgramHeaders, TableRange}
 use Rattle.elf_table.proofs.OpenLaws.{still_open}
 use Rattle.elf_hash.proofs.EntryLaws.{entries_are}
 use Rattle.elf_hash.proofs.FoundLaws.{size_within}

@@ -1,5 +1,5 @@
 -- The symbols, then the relocations.
-use Rattle.std.proofs.Common.{◌+◌, ◌*◌, ℕ, List, refl, ap, sym, ◌∙◌, arith}
+use Rattle.std.proofs.Common.{◌*◌, ℕ, List, arith}
 use Rattle.std.proofs.lemmas.Result.{err_from_is_err_and}
 use Rattle.elf_model.specs.Prelude.{ListingItem, RELOCS, cost_where, has, segment_at, segment_relocations, table_most, where_asked}
 use Rattle.elf_options.specs.Permitted.{style_of}

@@ -1,5 +1,5 @@
 -- An address past the last one is refused; any other has a row, if it is selected.
-use Rattle.std.proofs.Common.{◌≡◌, ◌≤◌, false, true, refl, sym, ap, ◌∙◌, [], Ok, arith}
+use Rattle.std.proofs.Common.{false, true, refl, sym, ap, ◌∙◌, Ok, arith}
 use Rattle.elf_options.specs.Permitted.{style_of}
 use Rattle.elf_model.specs.Prelude.{LinePrefix, NoSuffix, named_row, no_name, place_of_relr, placed_choice, relr_prefix, relr_row}
 use Rattle.elf_model.specs.Names.DisplayedName.{Whole as ShownWhole}

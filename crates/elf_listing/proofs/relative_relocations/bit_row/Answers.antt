@@ -1,5 +1,5 @@
 -- A bit that is not set has no row.
-use Rattle.std.proofs.Common.{Ok, arith}
+use Rattle.std.proofs.Common.{Ok}
 use Rattle.elf_options.specs.Permitted.{style_of}
 use Rattle.elf_listing.proofs.ListsLaws.{ListingCalls-nothing}
 use Rattle.elf_listing.proofs.PartsLaws.{Parts-as}

@@ -1,5 +1,5 @@
 -- A word is an address, a bitmap that an address precedes, or one that none does.
-use Rattle.std.proofs.Common.{◌≡◌, None, sym, ap, ◌∙◌}
+use Rattle.std.proofs.Common.{ap, ◌∙◌}
 use Rattle.elf_options.specs.Permitted.{style_of}
 use Rattle.elf_model.specs.Prelude.{word_rows}
 use Rattle.elf_note.proofs.WordLaws.{none-of}

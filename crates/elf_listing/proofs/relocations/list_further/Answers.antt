@@ -1,5 +1,5 @@
 -- The type of the section says which of the two kinds its table is of.
-use Rattle.std.proofs.Common.{◌≡◌, sym, ◌∙◌}
+use Rattle.std.proofs.Common.{sym, ◌∙◌}
 use Rattle.std.proofs.lemmas.Bool.{eq-eqb, ne_eqb}
 use Rattle.elf_listing.proofs.RelativeShown.{relative, without_addends}
 use Rattle.elf_listing.proofs.relocations.list_further.Goals as goal

@@ -1,6 +1,6 @@
 -- The row of an entry, by its string.
 use Rattle.elf_options.specs.Permitted.{style_of}
-use Rattle.std.proofs.Common.{◌≡◌, ℕ, ◌+◌, ◌*◌, Ok, false, true, refl, ap, ◌∙◌, arith}
+use Rattle.std.proofs.Common.{◌≡◌, ℕ, ◌+◌, ◌*◌, false, true, refl, ap, ◌∙◌, arith}
 use Rattle.std.proofs.lemmas.Result.{err_from_is_err_and}
 use Rattle.elf_model.specs.Prelude.{dynamic_at, dynamic_prefix, place_of_dynamic}
 use Rattle.elf_format.specs.Fronts.{front_of}

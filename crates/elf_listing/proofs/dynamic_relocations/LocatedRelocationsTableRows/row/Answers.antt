@@ -1,5 +1,5 @@
 -- The name of the symbol is read before the line is written.
-use Rattle.std.proofs.Common.{◌≡◌, ℕ, ◌+◌, ◌*◌, ◌/◌, ◌^◌, refl, sym, ap, ◌∙◌, [], Ok, Err, None}
+use Rattle.std.proofs.Common.{◌/◌, ◌^◌, refl, ap, ◌∙◌, []}
 use Rattle.std.proofs.lemmas.Result.{err_from_is_err_and}
 use Rattle.elf_options.specs.Permitted.{style_of}
 use Rattle.elf_model.specs.Prelude.{place_of_relocation, relocation_choice}

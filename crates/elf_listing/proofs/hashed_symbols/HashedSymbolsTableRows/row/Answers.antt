@@ -1,5 +1,5 @@
 -- The name is read before the line is written.
-use Rattle.std.proofs.Common.{◌≡◌, ℕ, ◌==◌, not, refl, sym, ap, ◌∙◌, [], Ok, Err, true}
+use Rattle.std.proofs.Common.{ℕ, ◌==◌, not, refl, ap, ◌∙◌, [], true}
 use Rattle.std.proofs.lemmas.Result.{err_from_is_err_and}
 use Rattle.elf_options.specs.Permitted.{style_of}
 use Rattle.elf_model.specs.Prelude.{class_choice}

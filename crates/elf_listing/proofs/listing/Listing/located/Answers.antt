@@ -1,8 +1,6 @@
 -- Tables are located if the style follows dynamic entries and a part has them.
-use Rattle.std.proofs.Common.{◌≡◌, ℕ, ◌==◌, ◌&&◌, Ok, refl, sym, ap, ◌∙◌, arith}
-use Rattle.elf_model.specs.Prelude.{e_shnum, follows_dynamic, has, has_located, locates_tables}
+use Rattle.std.proofs.Common.{Ok, sym, ◌∙◌, arith}
 use Rattle.elf_options.specs.Permitted.{style_of}
-use Rattle.elf_listing.specs.Viewed.{viewed_headers}
 use Rattle.elf_listing.proofs.LocatedShown.{asked_by, items_asked, items_none, located_whole}
 use Rattle.elf_listing.proofs.ListsLaws.{ListingCalls-nothing, ListingCalls-within}
 use Rattle.elf_listing.proofs.RowLaws.{WroteSome-as}

@@ -1,5 +1,5 @@
 -- The program header in the store is the file's.
-use Rattle.std.proofs.Common.{◌≡◌, ◌+◌, ◌*◌, Ok, false, true, refl, ap, ◌∙◌, arith}
+use Rattle.std.proofs.Common.{◌≡◌, Ok, false, true, refl, ap, ◌∙◌, arith}
 use Rattle.std.proofs.lemmas.Result.{err_from_is_err_and}
 use Rattle.elf_options.specs.Permitted.{style_of}
 use Rattle.elf_model.specs.Prelude.{place_of_segment, segment_at, segment_line}

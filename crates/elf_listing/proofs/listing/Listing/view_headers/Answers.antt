@@ -1,12 +1,11 @@
 -- The program headers, then what dynamic entries locate.
-use Rattle.std.proofs.Common.{ℕ, List, ◌∙◌, sym, ap}
+use Rattle.std.proofs.Common.{ℕ, List}
 use Rattle.std.proofs.lemmas.Result.{err_from_is_err_and}
 use Rattle.elf_model.specs.Prelude.{ListingItem, located_items}
 use Rattle.elf_options.specs.Permitted.{style_of}
 use Rattle.elf_options.specs.declared.caps.ListingStyle.{ListingStyle}
 use Rattle.elf_table.specs.declared.file.SectionView.{SectionView}
 use Rattle.elf_listing.specs.Prelude.{located_asked}
-use Rattle.elf_listing.specs.Viewed.{viewed_headers}
 use Rattle.elf_listing.proofs.PartsLaws.{Parts-more, Parts-then}
 use Rattle.elf_listing.proofs.listing.Listing.view_headers.Goals as goal
 

@@ -1,5 +1,5 @@
 -- Entries with addends are listed, and in GNU listings those without and relative relocations.
-use Rattle.std.proofs.Common.{◌≡◌, Bool, true, Ok, refl, sym, ◌∙◌, subst}
+use Rattle.std.proofs.Common.{Bool, true, Ok, sym, ◌∙◌, subst}
 use Rattle.std.proofs.lemmas.Bool.{eq-eqb, ne_eqb}
 use Rattle.elf_options.specs.Permitted.{style_of}
 use Rattle.elf_model.specs.Prelude.{entries_kind, section_at}

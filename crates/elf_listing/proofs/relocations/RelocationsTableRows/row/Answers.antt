@@ -1,13 +1,12 @@
--- The name of the symbol and then its version are read before the line is written. 
-use Rattle.std.proofs.Common.{◌≡◌, ℕ, ◌+◌, ◌≤◌, ◌*◌, ◌/◌, ◌^◌, refl, sym, ap, ◌∙◌, [], Ok, Err}
+-- The name of the symbol and then its version are read before the line is written.
+use Rattle.std.proofs.Common.{◌≡◌, ℕ, ◌+◌, ◌*◌, ◌/◌, ◌^◌, refl, sym, ap, ◌∙◌, [], Ok, Err}
 use Rattle.std.proofs.lemmas.Result.{err_from_is_err_and}
 use Rattle.elf_options.specs.Permitted.{style_of}
-use Rattle.elf_model.specs.Prelude.{entry_at, linked_at, name_bytes, place_of_relocation, relocation_choice, relocation_size, section_at, sh_link, sh_offset}
+use Rattle.elf_model.specs.Prelude.{entry_at, linked_at, place_of_relocation, relocation_choice, relocation_size, section_at, sh_link, sh_offset}
 use Rattle.elf_table.specs.declared.names.NameEnd.{NameEnd}
 use Rattle.elf_table.specs.declared.names.NameEnd.TheVariants.{Whole}
 use Rattle.elf_listing.proofs.Amounts.{all_of, part_of}
 use Rattle.elf_listing.specs.RowLayouts.{relocation_layout}
-use Rattle.elf_listing.specs.Suffixed.{suffix_cost}
 use Rattle.elf_listing.proofs.RowLaws.{WroteSome-as}
 use Rattle.elf_listing.proofs.SelectionLaws.{placed-chosen-as}
 use Rattle.elf_listing.proofs.RowCalls.{ListsRow-hidden, ListsRow-named, ListsRow-unread, WroteUntilStop-as}

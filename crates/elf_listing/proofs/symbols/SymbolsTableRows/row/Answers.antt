@@ -2,12 +2,11 @@
 use Rattle.std.proofs.Common.{◌≡◌, ℕ, ◌+◌, ◌*◌, ◌==◌, not, refl, sym, ap, ◌∙◌, [], Ok, Err}
 use Rattle.std.proofs.lemmas.Result.{err_from_is_err_and}
 use Rattle.elf_options.specs.Permitted.{style_of}
-use Rattle.elf_model.specs.Prelude.{name_bytes, section_at, sh_offset, symbol_choice}
+use Rattle.elf_model.specs.Prelude.{section_at, sh_offset, symbol_choice}
 use Rattle.elf_table.specs.declared.names.NameEnd.{NameEnd}
 use Rattle.elf_table.specs.declared.names.NameEnd.TheVariants.{Whole}
 use Rattle.elf_listing.proofs.Amounts.{all_of, part_of, placed_row}
 use Rattle.elf_listing.specs.RowLayouts.{symbol_layout}
-use Rattle.elf_listing.specs.Suffixed.{suffix_cost}
 use Rattle.elf_listing.proofs.RowLaws.{WroteSome-as}
 use Rattle.elf_listing.proofs.SelectionLaws.{symbol-chosen-as}
 use Rattle.elf_listing.proofs.RowCalls.{ListsRow-hidden, ListsRow-named, ListsRow-unread, WroteUntilStop-as}
