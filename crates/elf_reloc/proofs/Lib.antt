@@ -2,6 +2,7 @@ pub mod ValueSteps
 pub mod WrappingSums
 pub mod ApplySteps
 pub mod BudgetSteps
+pub mod CompareSteps
 pub mod CostSteps
 pub mod EntrySteps
 pub mod HeldSteps
