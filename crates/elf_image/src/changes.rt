@@ -245,7 +245,8 @@ fn table_segments(
         HoldsProgramHeaders file view.now.loaded view.now.store.now →
         AreImageTables file at tables.now →
         symbols ≡ option_map (dynamic_entry_at file) (tagged_row file at DT_SYMTAB) →
-        is_table_holder result segment ≡ list_any (has_table file segment) (read_addresses file at) }
+        is_table_holder result segment
+        ≡ list_any (has_table file segment) (read_addresses file at) }
 {
     TableSegments {
         compact: table_segment(view, &tables.compact),

@@ -60,7 +60,8 @@ fn read_cached_path<S: Source>(
     text: &mut NameBuf,
 ) -> Result<bool, Fault>
     requires bounds { CacheInBounds src.old.seen.size cache.now }
-    ensures did { CallDid src.old src.new (fault_of_result result) (cached_path_cost cache.now.count)
+    ensures did { CallDid src.old src.new (fault_of_result result)
+        (cached_path_cost cache.now.count)
         (λ file. ReturnsCacheText (cached_path file cache.now name.now) text.new result) }
     ensures fault { IfErr result IsOfRead }
 {

@@ -108,9 +108,10 @@ impl KeptIndices {
     /// indices are kept and its name has at most 32 bytes.
     pub(crate) fn keep(&mut self, place: usize, asked: &VersionQuery<'_>, numbers: VersionIndexSet)
         requires { place < 16 }
-        ensures known { (file : List ℕ) (told : IsScopeOf) → AreIndicesOf file told self.old.places →
-            AreNumbersOf file told (asked_of asked.now) numbers →
-            AreIndicesOf file told self.new.places }
+        ensures known { (file : List ℕ) (tables : IsScopeOf) →
+            AreIndicesOf file tables self.old.places →
+            AreNumbersOf file tables (asked_of asked.now) numbers →
+            AreIndicesOf file tables self.new.places }
         ensures puts { PutsIndices self.old self.new place (asked_of asked.now) numbers }
     {
         if !self.keeps {

@@ -174,7 +174,8 @@ impl<S: Source> ObjectFile<S> {
         left: &mut Option<u64>,
     ) -> Result<FileTables, Fault>
         requires by_segments { self.old.hides ≡ true }
-        ensures finds { FindsTablesWithin self.old self.new store.old.slots left.old left.new result }
+        ensures finds { FindsTablesWithin self.old self.new store.old.slots
+            left.old left.new result }
         ensures slots { store.new.slots ≡ store.old.slots }
     {
         self.source.charge(left, &mut |src| find_tables(src, store))

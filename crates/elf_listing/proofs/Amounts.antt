@@ -50,8 +50,8 @@ count_given i left fewer counted less step = omega arith
 pub count_ends : {i left all : ℕ} → i + left ≡ all → left ≡ 0 → i ≡ all
 count_ends counted none = omega arith
 
-pub count_within : (left : ℕ) {i all : ℕ} → i + left ≡ all → i ≤ all
-count_within left counted = omega arith
+pub count_at_most : (left : ℕ) {i all : ℕ} → i + left ≡ all → i ≤ all
+count_at_most left counted = omega arith
 
 pub count_fewer : {left fewer : ℕ} → fewer + 1 ≡ left → fewer < left
 count_fewer less = omega arith

@@ -30,7 +30,8 @@ pub(crate) fn load_view<S: Source>(
     ensures loaded { store.new.loaded ≡ store.old.loaded }
     ensures segments { OnOk result
         (store.new.segments ≡ viewed_headers (style_of style.entry) parts.0 loaded.now) }
-    ensures reads { ReadsUpTo src.old src.new (view_cost (style_of style.entry) parts.0 loaded.now) }
+    ensures reads { ReadsUpTo src.old src.new
+        (view_cost (style_of style.entry) parts.0 loaded.now) }
     ensures says { IfErr result
         (IsReadFault src.old src.new (view_cost (style_of style.entry) parts.0 loaded.now)) }
     ensures held { (file : List ℕ) → src.old.seen.file ≡ Some file →
@@ -70,7 +71,8 @@ fn check_view(
 
 /// Returns `true` if the style finds tables by the program headers, and the parts need them.
 fn is_checked(loaded: &Loaded, style: ListingStyle, parts: Parts) -> bool
-    ensures { result ≡ (style.entry.by_segments && needs_segment_view (style_of style.entry) parts.0 loaded.now) }
+    ensures { result ≡ (style.entry.by_segments
+        && needs_segment_view (style_of style.entry) parts.0 loaded.now) }
 {
     style.by_segments && loaded.header().e_shnum == 0 && needs_segment_view(style, parts)
 }
@@ -88,7 +90,8 @@ fn read_view<S: Source>(
     ensures loaded { store.new.loaded ≡ store.old.loaded }
     ensures segments { OnOk result
         (store.new.segments ≡ viewed_headers (style_of style.entry) parts.0 loaded.now) }
-    ensures reads { ReadsUpTo src.old src.new (view_cost (style_of style.entry) parts.0 loaded.now) }
+    ensures reads { ReadsUpTo src.old src.new
+        (view_cost (style_of style.entry) parts.0 loaded.now) }
     ensures says { IfErr result
         (IsReadFault src.old src.new (view_cost (style_of style.entry) parts.0 loaded.now)) }
     ensures fault { IfErr result IsOfRead }

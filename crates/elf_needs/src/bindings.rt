@@ -77,7 +77,8 @@ fn bind_all<S: Source, W: Sink>(
     ensures asks { AsksAll objects.old objects.new left.old left.new }
     ensures known { (headers : ℕ) (files : List (List ℕ)) →
         AreObjectFiles headers objects.old files →
-        WritesLines (bound_lines scope.now.lines) (bound_items (bound_among headers files scope.now))
+        WritesLines (bound_lines scope.now.lines)
+        (bound_items (bound_among headers files scope.now))
         (IsBudgetShort objects.new left.new) out.old out.new result }
 {
     let mut names = ReferenceNames::new();
@@ -108,8 +109,9 @@ fn bind_object<S: Source, W: Sink>(
     ensures asks { AsksAll objects.old objects.new left.old left.new }
     ensures known { (headers : ℕ) (files : List (List ℕ)) →
         AreObjectFiles headers objects.old files →
-        WritesLines (bound_lines scope.now.lines) (object_items (bound_among headers files scope.now) place
-        (get_or files place [])) (IsBudgetShort objects.new left.new) out.old out.new result }
+        WritesLines (bound_lines scope.now.lines)
+        (object_items (bound_among headers files scope.now) place (get_or files place []))
+        (IsBudgetShort objects.new left.new) out.old out.new result }
 {
     let count = match objects[place].symbol_count(left) {
         Ok(count) => count,
@@ -148,8 +150,8 @@ fn bind_symbol<S: Source, W: Sink>(
         lookup_tables_of (get_or files at.place []) headers ≡ Ok told →
         at.symbol < told.table.symbols →
         WritesSymbol scope.now.lines (bound_item (bound_among headers files scope.now) at.place
-        (get_or files at.place []) told.symbols at.symbol) (IsBudgetShort objects.new left.new) out.old out.new
-        result }
+        (get_or files at.place []) told.symbols at.symbol)
+        (IsBudgetShort objects.new left.new) out.old out.new result }
 {
     let state = match item_of(objects, scope, at, names, left) {
         Ok(Some(state)) => state,

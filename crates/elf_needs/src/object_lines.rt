@@ -70,7 +70,8 @@ fn list_in_order<W: Sink>(
     out: &mut Out<W>,
 ) -> Result<(), OutFault>
     ensures puts { OutPuts out.old out.new result
-        (lines_of_places lines objects.now program.now (places_in_order 0 objects.now.known.items)) }
+        (lines_of_places lines objects.now program.now
+        (places_in_order 0 objects.now.known.items)) }
 {
     for index in 0..objects.len() {
         list_place(

@@ -34,7 +34,8 @@ pub(crate) fn is_rooted(text: &[u8]) -> bool
 
 /// Appends a text to a path, with its tokens replaced. Returns whether it fits.
 pub(crate) fn put_expanded(path: &mut CandidatePath, text: &[u8], origin: &[u8]) -> bool
-    ensures { PutsText path.old.items path.new.items (Some (expanded origin.now 0 text.now)) result }
+    ensures { PutsText path.old.items path.new.items
+        (Some (expanded origin.now 0 text.now)) result }
 {
     let mut at = 0;
     while at < text.len() {

@@ -106,7 +106,8 @@ fn check_object<S: Source, W: Sink>(
     ensures asks { AsksAll objects.old objects.new left.old left.new }
     ensures known { (headers : ℕ) (files : List (List ℕ)) →
         AreObjectFiles headers objects.old files →
-        WritesLines (needed_version_lines scope.now.lines.format) (object_versions files scope.now place)
+        WritesLines (needed_version_lines scope.now.lines.format)
+        (object_versions files scope.now place)
         (IsBudgetShort objects.new left.new) out.old out.new result }
 {
     let mut walk = match objects[place].needs() {

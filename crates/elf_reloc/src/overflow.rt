@@ -57,8 +57,8 @@ pub fn explain_overflow<S: Source>(
     ensures slots { store.new.slots ≡ store.old.slots }
     ensures did { CallDid src.old src.new (fault_of_result result)
         (overflow_bytes store.old.slots layout.now)
-        (λ file. ExplainsOverflow file store.old.slots (overflowed file section layout.now at) result
-        name.new) }
+        (λ file. ExplainsOverflow file store.old.slots (overflowed file section layout.now at)
+        result name.new) }
 {
     let header = header(src)?;
     let loaded = load(src, store, &header)?;

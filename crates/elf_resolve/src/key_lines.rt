@@ -60,7 +60,8 @@ fn show_if_own<W: Sink, R: Render>(
     ensures writes { AreKeysListed link.now →
         let output = output_of link.now.output in
         let made = linking_of link.now in
-        WritesText out.old out.new result (concat (key_if_shown problems R.FORMAT output made key)) }
+        WritesText out.old out.new result
+        (concat (key_if_shown problems R.FORMAT output made key)) }
     ensures fails { AreKeysListed link.now →
         IfOk result (λ fails. fails
         ≡ is_unresolved (output_of link.now.output) (linking_of link.now) key) }

@@ -173,8 +173,8 @@ pub fn visit_entry<'a, M: ArchiveObjects>(
 ) -> Result<(), LinkStop>
     ensures moves { OnOk result (Moved (pass_of link.old taken.old) (pass_of link.new taken.new)) }
     ensures visits { M.known members.old → OnOk result (pass_of link.new taken.new
-        ≡ entry_visited (searched_archive archive (M.members members.old)) (pass_of link.old taken.old)
-        entry) }
+        ≡ entry_visited (searched_archive archive (M.members members.old))
+        (pass_of link.old taken.old) entry) }
     ensures limits { M.known members.old → OnOk result (KeepsLimits link.old.keys link.new.keys) }
     ensures room { link.new.rows.most ≡ link.old.rows.most }
     ensures stops { M.known members.old → AddsMembers (M.refusal members.old)
@@ -219,8 +219,8 @@ pub fn pass_index<'a, M: ArchiveObjects>(
 ) -> Result<(), LinkStop>
     ensures moves { OnOk result (Moved (pass_of link.old taken.old) (pass_of link.new taken.new)) }
     ensures passes { M.known members.old → OnOk result (pass_of link.new taken.new
-        ≡ index_passed (searched_archive archive (M.members members.old)) (pass_of link.old taken.old)
-        entries.now) }
+        ≡ index_passed (searched_archive archive (M.members members.old))
+        (pass_of link.old taken.old) entries.now) }
     ensures limits { M.known members.old → OnOk result (KeepsLimits link.old.keys link.new.keys) }
     ensures room { link.new.rows.most ≡ link.old.rows.most }
     ensures stops { M.known members.old → AddsMembers (M.refusal members.old)

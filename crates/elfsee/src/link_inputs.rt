@@ -104,7 +104,8 @@ where
         Ok(plan)
     }
 
-    /// Sets the directory below which those are that are added from now on. As for ld, `/` is none.
+    /// Sets the directory that comes before those that are added from now on. As for ld, `/` means
+    /// that there is none.
     ///
     /// # Errors
     /// Out of memory.

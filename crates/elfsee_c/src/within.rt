@@ -131,8 +131,8 @@ pub extern "C" fn elfsee_next_version_words_within(
     out: &mut [Versym],
     end: &mut CallEnd,
 ) -> usize
-    ensures { ReadsBudgeted 2 IsVersionWord file.now limits.now asked.old asked.new rows.old rows.new
-        (length out.old) out.new result end.new }
+    ensures { ReadsBudgeted 2 IsVersionWord file.now limits.now asked.old asked.new
+        rows.old rows.new (length out.old) out.new result end.new }
 {
     next_within(file, limits, asked, rows, out, end)
 }

@@ -5,7 +5,7 @@ use Rattle.std.proofs.lemmas.Result.{err_from_is_err_and}
 use Rattle.elf_note.proofs.HeldLaws.{still_held}
 use Rattle.elf_note.proofs.SpendsLaws.{SpendsAtMost-none}
 use Rattle.elf_table.proofs.OpenLaws.{still_open}
-use Rattle.elf_listing.proofs.Amounts.{asked_begins, asked_last, asked_read, asked_row, count_begins, count_ends, count_fewer, count_given, count_next, count_within, part_of}
+use Rattle.elf_listing.proofs.Amounts.{asked_begins, asked_last, asked_read, asked_row, count_begins, count_ends, count_fewer, count_given, count_next, count_at_most, part_of}
 use Rattle.elf_listing.proofs.ViewedLaws.{still_viewed}
 use Rattle.elf_table.specs.Cursors.{unread_bytes}
 use Rattle.elf_table.proofs.CursorLaws.{agrees_none}
@@ -48,7 +48,7 @@ returns-in_err-advance g c = record {
   shows = λ file held of_kind.
       let p = err_from_is_err_and c.from_residual.result c.from_residual.ensures.1 in
       let known = c.rows.invariant in
-      rw (p.1, p.2) (rows_unread ((g.K.TableRows.layout c.args.rows.now).items (g.V.NameVersions.lookup c.args.versions.now) file (style_of c.args.listing.now.style) c.args.table.at) (reading c.rows.cursor).index _ _ _ _ _ (count_within _ (known.listed file held)) (c.in_err-advance.ensures.steps.at_next known.not_failed) (known.text file held of_kind));
+      rw (p.1, p.2) (rows_unread ((g.K.TableRows.layout c.args.rows.now).items (g.V.NameVersions.lookup c.args.versions.now) file (style_of c.args.listing.now.style) c.args.table.at) (reading c.rows.cursor).index _ _ _ _ _ (count_at_most _ (known.listed file held)) (c.in_err-advance.ensures.steps.at_next known.not_failed) (known.text file held of_kind));
 }
 
 pub returns-in_err-row : goal.returns-in_err-row
