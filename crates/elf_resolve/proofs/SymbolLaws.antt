@@ -1,13 +1,14 @@
 -- The symbols of a file, taken in order.
-use Rattle.std.proofs.Common.{◌≡◌, ℕ, ◌+◌, ◌<◌, Bool, true, false, List, [], ◌∷◌, ◌++◌, length, get_or, take, map, refl, sym, ap, ◌∙◌, arith}
+use Rattle.std.proofs.Common.{◌≡◌, ℕ, zero, suc, ◌+◌, ◌<◌, Bool, true, false, List, [], ◌∷◌, ◌++◌, length, get_or, take, map, refl, sym, ap, subst, ◌∙◌, inl, inr, arith}
 use Rattle.std.specs.Prelude.{Option, None, Some}
 use Rattle.std.proofs.lemmas.List.{get_or-map, length-map, take_more}
 use Rattle.elf_model.specs.LinkKeys.{LinkKeys, LinkSymbol, default_used, entry_named, name_used, prepared, symbol_taken, symbols_taken}
 use Rattle.elf_model.specs.LinkSteps.{ends_at}
 use Rattle.elf_model.specs.declared.link_states.KeyEntry.{KeyEntry}
 use Rattle.elf_resolve.specs.KeyTables.{KeyList}
-use Rattle.elf_resolve.specs.Symbols.{TookSymbol, TookSymbols, UsedName, symbol_record}
+use Rattle.elf_resolve.specs.Symbols.{LacksRoomForOne, LacksRoomForSome, LacksRoomForSymbol, NotTookSymbol, NotTookSymbols, NotUsedName, TookSymbol, TookSymbols, UsedName, symbol_record}
 use Rattle.elf_resolve.specs.declared.symbols.Symbol as given
+use Rattle.elf_resolve.specs.declared.table.KeyFault.{KeyFault}
 
 -- a symbol after others
 pub symbols_taken-push : (row : Option ℕ) (keys : LinkKeys) (symbols : List LinkSymbol) (s : LinkSymbol) → symbols_taken row keys (symbols ++ s ∷ []) ≡ symbol_taken row (symbols_taken row keys symbols) s
@@ -43,6 +44,16 @@ second_used old now new s row name two ends first second = record {
   most_further = second.most_further ∙ first.most_further;
 }
 
+-- one whose first name can't be used, and one whose second can't
+pub first_not_used : (old new : KeyList) (s : LinkSymbol) (fault : KeyFault) → NotUsedName old new s.name fault → NotTookSymbol old new s fault
+first_not_used old new s fault first = record { limits = first.limits; full = inl first.full }
+
+pub second_not_used : (old now new : KeyList) (s : LinkSymbol) (row : Option ℕ) (name : List ℕ) (fault : KeyFault) → s.default_name ≡ Some name → UsedName old now s.name s.symbol row → NotUsedName now new name fault → NotTookSymbol old new s fault
+second_not_used old now new s row name fault two first second = record {
+  limits = record { most = second.limits.most ∙ first.most; most_further = second.limits.most_further ∙ first.most_further };
+  full = inr (subst (λ d. LacksRoomForSome new d fault) (sym two) second.full);
+}
+
 -- one symbol more
 pub took_more : (old now new : KeyList) (symbols : List given.Symbol) (row : Option ℕ) (i : ℕ) (d : given.Symbol) → i < length symbols → TookSymbols old now (take i (map symbol_record symbols)) row
     → TookSymbol now new (symbol_record (get_or symbols i d)) row → TookSymbols old new (take (i + 1) (map symbol_record symbols)) row
@@ -55,3 +66,17 @@ took_more old now new symbols row i d there before one =
       most = one.most ∙ before.most;
       most_further = one.most_further ∙ before.most_further;
     }
+
+-- one of the symbols can't be taken
+one_lacks : (table : KeyList) (fault : KeyFault) (symbols : List given.Symbol) (i : ℕ) (d : given.Symbol) → i < length symbols → LacksRoomForSymbol table (symbol_record (get_or symbols i d)) fault
+    → LacksRoomForOne table (map symbol_record symbols) fault
+one_lacks table fault [] i d there lacks = absurd (omega (arith, there))
+one_lacks table fault (s ∷ symbols) zero d there lacks = inl lacks
+one_lacks table fault (s ∷ symbols) (suc i) d there lacks = inr (one_lacks table fault symbols i d (omega (arith, there)) lacks)
+
+pub took_not : (old now new : KeyList) (symbols : List given.Symbol) (row : Option ℕ) (i : ℕ) (d : given.Symbol) (fault : KeyFault) → i < length symbols → TookSymbols old now (take i (map symbol_record symbols)) row
+    → NotTookSymbol now new (symbol_record (get_or symbols i d)) fault → NotTookSymbols old new (map symbol_record symbols) fault
+took_not old now new symbols row i d fault there before one = record {
+  limits = record { most = one.limits.most ∙ before.most; most_further = one.limits.most_further ∙ before.most_further };
+  full = one_lacks new fault symbols i d there one.full;
+}

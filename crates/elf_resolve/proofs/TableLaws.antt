@@ -1,5 +1,5 @@
 -- Names that are entered in a table of keys, and keys that are used.
-use Rattle.std.proofs.Common.{◌≡◌, ℕ, ◌+◌, Bool, true, false, cond, List, [], ◌∷◌, ◌++◌, length, Bor, refl, sym, ap, subst, ◌∙◌, arith}
+use Rattle.std.proofs.Common.{◌≡◌, ℕ, ◌+◌, Bool, true, false, cond, List, [], ◌∷◌, ◌++◌, length, Bor, refl, sym, ap, subst, ◌∙◌, inl, inr, arith}
 use Rattle.std.specs.Prelude.{Option, None, Some, bytes_eq}
 use Rattle.std.specs.Map.{lookup}
 use Rattle.std.proofs.lemmas.Slice.Eq.{bytes_eq-Decides}
@@ -7,8 +7,9 @@ use Rattle.elf_model.specs.LinkKeys.{entered, entered_at, entry_named_as, key_in
 use Rattle.elf_model.specs.LinkObjects.{is_kept, kept, name_noted, signature_kept}
 use Rattle.elf_model.specs.declared.link_states.KeyEntry.{KeyEntry}
 use Rattle.elf_model.specs.declared.link_states.SymbolUse.{SymbolUse}
-use Rattle.elf_resolve.specs.KeyTables.{Entered, FindsKeys, KeptGroup, NotedSection, KeyList, fresh, fresh_or}
-use Rattle.elf_resolve.specs.Symbols.{UsedName}
+use Rattle.elf_resolve.specs.KeyTables.{Entered, FindsKeys, KeptGroup, NotEntered, NotUsed, NotedSection, KeyList, fresh, fresh_or}
+use Rattle.elf_resolve.specs.Symbols.{LacksRoom, NotUsedName, UsedName}
+use Rattle.elf_resolve.specs.declared.table.KeyFault.{KeyFault}
 use Rattle.elf_resolve.proofs.ListLaws.{position_push_new, position_push_other}
 
 -- a name that is known
@@ -80,6 +81,7 @@ group_kept old now new signature is_link_once index entry after dropped before k
       ∙ ap (λ i. is_kept is_link_once (entry_named_as (entered old.keys signature) i)) before.index_is;
   most = ap (λ (t : KeyList). t.most) new_is ∙ before.most;
   most_further = ap (λ (t : KeyList). t.most_further) new_is ∙ before.most_further;
+  room = ap (λ (t : KeyList). t.room + length (fresh old.keys signature)) new_is ∙ before.room;
 }
 
 pub section_noted : (old now new : KeyList) (name : List ℕ) (index : ℕ) (entry after : KeyEntry) → Entered old now name index
@@ -96,6 +98,7 @@ section_noted old now new name index entry after before known noted_is new_is =
           ∙ ap (λ i. with_entry (entered old.keys name) i (noted (entry_named_as (entered old.keys name) i))) before.index_is;
       most = ap (λ (t : KeyList). t.most) new_is ∙ before.most;
       most_further = ap (λ (t : KeyList). t.most_further) new_is ∙ before.most_further;
+      room = ap (λ (t : KeyList). t.room + length (fresh old.keys name)) new_is ∙ before.room;
     }
 
 -- a name used
@@ -109,4 +112,18 @@ name_used_by old now new name index symbol row before new_is = record {
       ∙ ap (λ i. key_used (entered old.keys name) i symbol row) before.index_is;
   most = ap (λ (t : KeyList). t.most) new_is ∙ before.most;
   most_further = ap (λ (t : KeyList). t.most_further) new_is ∙ before.most_further;
+  room = ap (λ (t : KeyList). t.room + length (fresh old.keys name)) new_is ∙ before.room;
+}
+
+-- a name that can't be entered, and one that was entered and can't be used
+pub not_entered_used : (old new : KeyList) (name : List ℕ) (fault : KeyFault) → NotEntered old new name fault → NotUsedName old new name fault
+not_entered_used old new name fault not = record {
+  limits = record { most = ap (λ (t : KeyList). t.most) not.same; most_further = ap (λ (t : KeyList). t.most_further) not.same };
+  full = subst (λ t. LacksRoom t name fault) (sym not.same) (inl (not.absent, not.full));
+}
+
+pub entered_not_used : (old now new : KeyList) (name : List ℕ) (index : ℕ) (symbol : SymbolUse) (fault : KeyFault) → Entered old now name index → NotUsed now new index symbol fault → NotUsedName old new name fault
+entered_not_used old now new name index symbol fault before not = record {
+  limits = record { most = ap (λ (t : KeyList). t.most) not.same ∙ before.most; most_further = ap (λ (t : KeyList). t.most_further) not.same ∙ before.most_further };
+  full = subst (λ t. LacksRoom t name fault) (sym not.same) (inr (not.fault_is, not.full));
 }

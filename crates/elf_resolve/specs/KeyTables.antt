@@ -98,15 +98,25 @@ abbrev pub UsesKey : KeyList → KeyList → (index : ℕ) → SymbolUse → (ro
 UsesKey old new index symbol row (Ok done) = new ≡ record old { keys = key_used old.keys index symbol row }
 UsesKey old new index symbol row (Err fault) = NotUsed old new index symbol fault
 
--- A GROUP KEPT, or dropped
+-- A GROUP KEPT, or dropped: its signature was entered
 pub record KeptGroup (old new : KeyList) (signature : List ℕ) (is_link_once dropped : Bool) : Type 0 where
   pub keys : new.keys ≡ signature_kept (entered old.keys signature) (key_index old.keys signature) is_link_once
   pub dropped_is : dropped ≡ is_kept is_link_once (entry_named_as (entered old.keys signature) (key_index old.keys signature))
   pub most : new.most ≡ old.most
   pub most_further : new.most_further ≡ old.most_further
+  pub room : new.room + length (fresh old.keys signature) ≡ old.room
 
--- A SECTION NOTED at the key of its name
+abbrev pub KeepsGroup : KeyList → KeyList → (signature : List ℕ) → (is_link_once : Bool) → Result Bool KeyFault → Type 0
+KeepsGroup old new signature is_link_once (Ok dropped) = KeptGroup old new signature is_link_once dropped
+KeepsGroup old new signature is_link_once (Err fault) = NotEntered old new signature fault
+
+-- A SECTION NOTED at the key of its name, which was entered
 pub record NotedSection (old new : KeyList) (name : List ℕ) : Type 0 where
   pub keys : new.keys ≡ name_noted old.keys name
   pub most : new.most ≡ old.most
   pub most_further : new.most_further ≡ old.most_further
+  pub room : new.room + length (fresh old.keys name) ≡ old.room
+
+abbrev pub NotesSection : KeyList → KeyList → List ℕ → Result (Unit {0}) KeyFault → Type 0
+NotesSection old new name (Ok done) = NotedSection old new name
+NotesSection old new name (Err fault) = NotEntered old new name fault

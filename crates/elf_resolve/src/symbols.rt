@@ -1,7 +1,7 @@
 //! The symbols of a file.
-ghost use Rattle.std.specs.Prelude.{◌≡◌, OnOk, map};
+ghost use Rattle.std.specs.Prelude.{◌≡◌, map};
 ghost use Rattle.elf_model.specs.LinkKeys.{entry_named as named_entry};
-ghost use Rattle.elf_resolve.specs.Symbols.{TookSymbol, TookSymbols, UsedName, symbol_record};
+ghost use Rattle.elf_resolve.specs.Symbols.{TakesSymbol, TakesSymbols, UsesName, symbol_record};
 
 use crate::steps::{ends_at, prepared};
 use crate::table::{KeyFault, KeyTable, NEW_KEY};
@@ -40,7 +40,7 @@ impl<'a> KeyTable<'a> {
         symbol: SymbolUse,
         row: Option<u32>,
     ) -> Result<(), KeyFault>
-        ensures { OnOk result (UsedName self.old self.new name.now symbol row) }
+        ensures { UsesName self.old self.new name.now symbol row result }
     {
         let index = self.enter(name)?;
         self.use_key(index, symbol, row)?;
@@ -52,7 +52,7 @@ impl<'a> KeyTable<'a> {
     /// # Errors
     /// Returns a `KeyFault` if there is no room.
     pub fn take(&mut self, symbol: Symbol, row: Option<u32>) -> Result<(), KeyFault>
-        ensures { OnOk result (TookSymbol self.old self.new (symbol_record symbol.entry) row) }
+        ensures { TakesSymbol self.old self.new (symbol_record symbol.entry) row result }
     {
         let entry = self.entry_named(symbol.name);
         self.use_name(symbol.name, symbol.symbol, row)?;
@@ -71,7 +71,7 @@ impl<'a> KeyTable<'a> {
     /// # Errors
     /// Returns a `KeyFault` if there is no room.
     pub fn take_symbols(&mut self, symbols: &[Symbol], row: Option<u32>) -> Result<(), KeyFault>
-        ensures { OnOk result (TookSymbols self.old self.new (map symbol_record symbols.now) row) }
+        ensures { TakesSymbols self.old self.new (map symbol_record symbols.now) row result }
     {
         for i in 0..symbols.len() {
             self.take(symbols[i], row)?;

@@ -1,9 +1,9 @@
 //! The table of keys.
-ghost use Rattle.std.specs.Prelude.{◌≡◌, ◌+◌, ◌<◌, ◌≤◌, ◌^◌, false, vec_capacity, IfOk, MatchResult, OnOk, length, [], get_or};
+ghost use Rattle.std.specs.Prelude.{◌≡◌, ◌+◌, ◌<◌, ◌≤◌, ◌^◌, false, vec_capacity, IfOk, MatchResult, length, [], get_or};
 ghost use Rattle.elf_model.specs.LinkKeys.{references_after as asked_of, entry_named_as, key_in, no_keys, order_after, with_entry};
 ghost use Rattle.elf_model.specs.LinkObjects.{is_kept as is_kept_at, kept as kept_at};
 ghost use Rattle.elf_resolve.specs.KeptLimits.{HasRoomForKeys};
-ghost use Rattle.elf_resolve.specs.KeyTables.{AddsFurther, Enters, KeptGroup, NotedSection, UsesKey};
+ghost use Rattle.elf_resolve.specs.KeyTables.{AddsFurther, Enters, KeepsGroup, NotesSection, UsesKey};
 
 use crate::steps::{is_further, used};
 use bumpalo::Bump;
@@ -251,7 +251,7 @@ impl<'a> KeyTable<'a> {
     /// # Errors
     /// Returns a `KeyFault` if the name is new and there is no room: nothing changes.
     pub fn note_section(&mut self, name: &[u8]) -> Result<(), KeyFault>
-        ensures { OnOk result (NotedSection self.old self.new name.now) }
+        ensures { NotesSection self.old self.new name.now result }
     {
         let index = self.enter(name)?;
         let entry = self.entry(index);
@@ -271,8 +271,7 @@ impl<'a> KeyTable<'a> {
     /// # Errors
     /// Returns a `KeyFault` if the name is new and there is no room: nothing changes.
     pub fn drop_group(&mut self, signature: &[u8], is_link_once: bool) -> Result<bool, KeyFault>
-        ensures { IfOk result
-            (λ dropped. KeptGroup self.old self.new signature.now is_link_once dropped) }
+        ensures { KeepsGroup self.old self.new signature.now is_link_once result }
     {
         let index = self.enter(signature)?;
         let entry = self.entry(index);
