@@ -1,5 +1,5 @@
 -- What holds of a link as a resolver has it, and what an input does to it.
-use Rattle.std.specs.Prelude.{ℕ, ◌≡◌, ◌≢◌, ◌++◌, Bool, true, false, List, [], ◌∷◌, length, map, option_map, replicate, Option, None, Some}
+use Rattle.std.specs.Prelude.{ℕ, ◌≡◌, ◌≢◌, ◌≤◌, ◌++◌, Bool, true, false, List, [], ◌∷◌, length, map, option_map, replicate, vec_capacity, Option, None, Some}
 use Rattle.std.specs.List.{slice_get}
 use Rattle.std.proofs.Math.ListN.{set}
 use Rattle.elf_archive.specs.Members.{extent_of_names}
@@ -22,6 +22,7 @@ use Rattle.elf_resolve.specs.declared.link_files.LinkInput.{LinkInput}
 use Rattle.elf_resolve.specs.declared.link_files.LinkPlan.{LinkPlan}
 use Rattle.elf_resolve.specs.declared.resolver.InputState.TheVariants as state
 use Rattle.elf_resolve.specs.declared.resolver.Resolver.{Resolver}
+use Rattle.elf_resolve.specs.declared.room.LinkCaps.{LinkCaps}
 use Rattle.elf_source.specs.Source.{SourceState}
 
 -- A LINK WITHOUT SHARED LIBRARIES: its archives are opened files, each input's state is that of its
@@ -161,6 +162,16 @@ pub record IsFresh (link : Resolver) : Type 0 where
   pub states : (input : ℕ) → is_new_input link.states.items input ≡ true
   pub lists : HasListRoom link
   pub names : link.room.names ≡ []
+
+-- THERE IS ROOM for as much as is allowed, for a state of each step, and for as many groups
+pub record HasRoomOf (caps : LinkCaps) (steps : ℕ) (link : Resolver) : Type 0 where
+  pub keys : link.link.keys.most ≡ caps.keys
+  pub key_bytes : link.link.keys.room ≡ caps.key_bytes
+  pub further : link.link.keys.most_further ≡ caps.index
+  pub rows : link.link.rows.most ≡ caps.rows
+  pub headers : link.room.headers ≡ caps.headers
+  pub states : length link.states.items ≡ steps
+  pub groups : steps ≤ vec_capacity link.groups
 
 -- names were asked for by arguments
 pub record AskedNames (old new : Resolver) (names : List (List ℕ)) : Type 0 where

@@ -1,5 +1,5 @@
 //! The memory of a link, in parts.
-ghost use Rattle.std.specs.Prelude.{◌≡◌, [], IfOk, None, false, get_or, length, true, ℕ};
+ghost use Rattle.std.specs.Prelude.{◌≡◌, ◌≤◌, [], IfOk, None, false, get_or, length, true, vec_capacity, ℕ};
 ghost use Rattle.elf_model.specs.LinkKeys.{no_keys};
 ghost use Rattle.elf_resolve.specs.LinkPlaces.{is_new_input};
 ghost use Rattle.elf_resolve.specs.ListRooms.{AreEmptyLists};
@@ -71,6 +71,7 @@ pub(crate) fn new_link<'a>(
     ensures rows { IfOk result (λ link. link.rows.most ≡ caps.now.rows) }
     ensures limits { IfOk result (λ link. (link.keys.most ≡ caps.now.keys)
         × (link.keys.most_further ≡ caps.now.index)) }
+    ensures bytes { IfOk result (λ link. link.keys.room ≡ caps.now.key_bytes) }
 {
     let bytes = caps.key_bytes;
     let keys = KeyTable::new(alloc, hasher, caps.keys, caps.index, memory, bytes)?;
@@ -128,8 +129,10 @@ impl StepStates {
     /// # Errors
     /// Out of memory.
     pub(crate) fn new(alloc: Global, steps: usize) -> Result<StepStates, AllocError>
-        ensures { IfOk result (λ steps. (steps.groups.items ≡ [])
-            × ((input : ℕ) → is_new_input steps.states.items input ≡ true)) }
+        ensures empty { IfOk result (λ made. (made.groups.items ≡ [])
+            × ((input : ℕ) → is_new_input made.states.items input ≡ true)) }
+        ensures room { IfOk result (λ made. (length made.states.items ≡ steps)
+            × (steps ≤ vec_capacity made.groups)) }
     {
         Ok(StepStates {
             states: vec![in alloc; InputState::New; steps]?,

@@ -17,7 +17,7 @@ ghost use Rattle.elf_resolve.specs.OwnLinks.{IsOwnLink};
 ghost use Rattle.elf_resolve.specs.Plans.{IsStaticPlan, planned_files, plan_steps};
 ghost use Rattle.elf_resolve.specs.Resolved.{linking_of};
 ghost use Rattle.elf_resolve.specs.NamedRows.{HasNames};
-ghost use Rattle.elf_resolve.specs.ResolvedInputs.{AddedRowOf, AskedNames, IsFresh, TookAll};
+ghost use Rattle.elf_resolve.specs.ResolvedInputs.{AddedRowOf, AskedNames, HasRoomOf, IsFresh, TookAll};
 ghost use Rattle.elf_resolve.specs.StaticLinks.{AreKeysListed};
 ghost use Rattle.elf_resolve.specs.ReadBudgets.{KeepsToBudget};
 
@@ -109,7 +109,8 @@ impl<'a> Resolver<'a> {
         steps: usize,
         memory: &'a Bump,
     ) -> Result<Resolver<'a>, AllocError>
-        ensures { IfOk result IsFresh }
+        ensures fresh { IfOk result IsFresh }
+        ensures room { IfOk result (HasRoomOf caps.now steps) }
     {
         let link = new_link(alloc, hasher, caps, memory)?;
         let KeyLists {
