@@ -7,7 +7,8 @@ use Rattle.elf_model.specs.declared.link_states.IndexEntry.{IndexEntry}
 use Rattle.elf_model.specs.declared.link_states.LinkRefusal.{LinkRefusal}
 use Rattle.elf_model.specs.declared.link_states.LinkRow.{LinkRow}
 use Rattle.elf_resolve.specs.Passing.{PassedTo, searched_archive}
-use Rattle.elf_resolve.specs.SearchStops.{AddedMembers, AreTakenMembers, StoppedAtMember, StopsSearch}
+use Rattle.elf_resolve.specs.RowTables.{LinkRows}
+use Rattle.elf_resolve.specs.SearchStops.{AddedMembers, AreTakenMembers, FillsRows, IsMemberStop, StoppedAtMember, StopsSearch}
 use Rattle.elf_resolve.specs.declared.table.LinkStop.{LinkStop}
 use Rattle.elf_resolve.specs.declared.table.LinkStop.TheVariants.{Full, TooManyRows, Unreadable}
 use Rattle.elf_resolve.specs.declared.passes.ArchiveInput.{ArchiveInput}
@@ -86,6 +87,12 @@ module _ (refusal : ℕ → Option LinkRefusal) (input : ℕ) where
     stops_at old new made row member TooManyRows within rows made_is member_is input_is stops = tt
     stops_at old new made row member (Full fault) within rows made_is member_is input_is stops = inr (one old new made row member within rows made_is member_is input_is stops)
     stops_at old new made row member Unreadable within rows made_is member_is input_is stops = inr (one old new made row member within rows made_is member_is input_is stops)
+
+-- a member's stop says nothing of the rows
+pub member_stops : (table : LinkRows) (stop : LinkStop) → IsMemberStop stop → FillsRows table stop
+member_stops table TooManyRows of_member = absurd of_member
+member_stops table (Full fault) of_member = tt
+member_stops table Unreadable of_member = tt
 
 -- A MEMBER THAT IS NOT TAKEN YET is one of so many
 pub untaken_within : (taken : List Bool) (member : ℕ) → get_or taken member true ≡ false → member < length taken

@@ -5,6 +5,7 @@ use Rattle.elf_model.specs.LinkSymbols.{object_of}
 use Rattle.elf_model.specs.declared.link_states.LinkRefusal.{LinkRefusal}
 use Rattle.elf_model.specs.declared.link_states.LinkRow.{LinkRow}
 use Rattle.elf_resolve.specs.LinkFaults.{MovesWithin}
+use Rattle.elf_resolve.specs.RowTables.{LinkRows}
 use Rattle.elf_resolve.specs.Taken.{IsLinkFault}
 use Rattle.elf_resolve.specs.declared.link_faults.LinkFault.{LinkFault}
 use Rattle.elf_resolve.specs.declared.table.LinkStop.{LinkStop}
@@ -47,6 +48,16 @@ abbrev pub StopsSearch : (refusal : ℕ → Option LinkRefusal) (stopped halted 
 StopsSearch refusal stopped halted input count old new made TooManyRows = ⊤
 StopsSearch refusal stopped halted input count old new made _ =
     ((member : ℕ) × (member < count) × halted member) ⊎ StoppedAtMember refusal stopped input count old new made
+
+-- a member stops a search for another reason than lack of room for a row
+abbrev pub IsMemberStop : LinkStop → Type 0
+IsMemberStop TooManyRows = ⊥
+IsMemberStop _ = ⊤
+
+-- A SEARCH LACKS ROOM for a row only if there are as many rows as there is room for
+abbrev pub FillsRows : LinkRows → LinkStop → Type 0
+FillsRows table TooManyRows = length table.rows ≡ table.most
+FillsRows table _ = ⊤
 
 -- WHAT A SEARCH ADDS, up to where it stops
 abbrev pub AddsMembers : (refusal : ℕ → Option LinkRefusal) (stopped halted : ℕ → Type 0) (input count : ℕ) (old new made : List LinkRow) → Result (Unit {0}) LinkStop → Type 0

@@ -1,12 +1,12 @@
 //! The members of an archive that its index asks for.
-ghost use Rattle.std.specs.Prelude.{◌≡◌, IfOk, List, None, OnErr, OnOk, Option, length, ℕ};
+ghost use Rattle.std.specs.Prelude.{◌≡◌, IfErr, IfOk, List, None, OnErr, OnOk, Option, length, ℕ};
 ghost use Rattle.elf_model.specs.LinkPasses.{ArchiveMembers, archive_searched, asks_for as asks_by, entry_visited, index_name, index_passed, is_new as is_new_of, is_taken as is_taken_of, key_of_entry as key_of, member_row as row_of};
 ghost use Rattle.elf_resolve.specs.KeptLimits.{KeepsLimits};
 ghost use Rattle.elf_model.specs.declared.link_states.LinkRefusal.{LinkRefusal};
 ghost use Rattle.elf_model.specs.Names.{DisplayedName};
 ghost use Rattle.elf_resolve.specs.MemberNames.{RowName};
 ghost use Rattle.elf_resolve.specs.Passing.{Moved, TookObject, searched_archive, pass_of};
-ghost use Rattle.elf_resolve.specs.SearchStops.{AddsMembers};
+ghost use Rattle.elf_resolve.specs.SearchStops.{AddsMembers, FillsRows, IsMemberStop};
 ghost use Rattle.elf_resolve.specs.RowNames.{AddsName, KeepsMemberNames};
 
 use crate::rows::RowTable;
@@ -61,6 +61,7 @@ pub trait ArchiveObjects {
             → OnOk result (TookObject ((members self.old).objects member) keys.old keys.new row) }
         ensures accepts { known self.old → OnOk result (refusal self.old member ≡ None) }
         ensures stops { known self.old → OnErr result (stopped self.new member) }
+        ensures of_member { IfErr result IsMemberStop }
         ensures same_refusal { refusal self.new ≡ refusal self.old }
         ensures adds { known self.old
             → OnOk result (AddsName (names self.old) (names self.new) row (named self.old member)) }
@@ -78,6 +79,7 @@ pub trait ArchiveObjects {
         ensures defines { known self.old → IfOk result (λ is_defined. is_defined
             ≡ (members self.old).defines entry.member (index_name keys.now.keys entry)) }
         ensures halts { known self.old → OnErr result (halted self.new entry.member) }
+        ensures of_member { IfErr result IsMemberStop }
         ensures same_refusal { refusal self.new ≡ refusal self.old }
         ensures names { names self.new ≡ names self.old }
         ensures named { named self.new ≡ named self.old }
@@ -128,6 +130,7 @@ fn asks_for<'a, M: ArchiveObjects>(
     ensures asks { M.known members.old → IfOk result
         (λ asks. asks ≡ asks_by (M.members members.old) keys.now.keys entry) }
     ensures halts { M.known members.old → OnErr result (M.halted members.new entry.member) }
+    ensures of_member { IfErr result IsMemberStop }
     ensures same_refusal { M.refusal members.new ≡ M.refusal members.old }
     ensures names { M.names members.new ≡ M.names members.old }
     ensures named { M.named members.new ≡ M.named members.old }
@@ -163,7 +166,7 @@ fn member_row<'a>(archive: ArchiveInput, keys: &KeyTable<'a>, entry: IndexEntry)
 /// Takes the member of an entry, if the entry's key asks for it.
 ///
 /// # Errors
-/// Returns a `LinkStop` if the member can't be taken.
+/// Returns a `LinkStop` if the member can't be taken, or there is no room for its row.
 pub fn visit_entry<'a, M: ArchiveObjects>(
     link: &mut Link<'a>,
     archive: ArchiveInput,
@@ -177,6 +180,7 @@ pub fn visit_entry<'a, M: ArchiveObjects>(
         (pass_of link.old taken.old) entry) }
     ensures limits { M.known members.old → OnOk result (KeepsLimits link.old.keys link.new.keys) }
     ensures room { link.new.rows.most ≡ link.old.rows.most }
+    ensures full { IfErr result (FillsRows link.new.rows) }
     ensures stops { M.known members.old → AddsMembers (M.refusal members.old)
         (M.stopped members.new) (M.halted members.new) archive.input (length taken.old)
         link.old.rows.rows link.new.rows.rows
@@ -223,6 +227,7 @@ pub fn pass_index<'a, M: ArchiveObjects>(
         (pass_of link.old taken.old) entries.now) }
     ensures limits { M.known members.old → OnOk result (KeepsLimits link.old.keys link.new.keys) }
     ensures room { link.new.rows.most ≡ link.old.rows.most }
+    ensures full { IfErr result (FillsRows link.new.rows) }
     ensures stops { M.known members.old → AddsMembers (M.refusal members.old)
         (M.stopped members.new) (M.halted members.new) archive.input (length taken.old)
         link.old.rows.rows link.new.rows.rows
@@ -260,6 +265,7 @@ pub fn search_archive<'a, M: ArchiveObjects>(
         (pass_of link.old taken.old)) }
     ensures limits { M.known members.old → OnOk result (KeepsLimits link.old.keys link.new.keys) }
     ensures room { link.new.rows.most ≡ link.old.rows.most }
+    ensures full { IfErr result (FillsRows link.new.rows) }
     ensures stops { M.known members.old → AddsMembers (M.refusal members.old)
         (M.stopped members.new) (M.halted members.new) archive.input (length taken.old)
         link.old.rows.rows link.new.rows.rows

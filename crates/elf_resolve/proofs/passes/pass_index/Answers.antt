@@ -28,3 +28,8 @@ returns-in_err-visit_entry-clause-stops g c = λ known.
     let p = err_from_is_err_and c.from_residual.result c.from_residual.ensures.1 in
     rw (p.1, p.2) (stops_after _ _ _ _ (g.M.ArchiveObjects.refusal c.visit_entry.new.members) c.args.archive.input _ _ c.visit_entry.new.link.rows.rows _ _ _ _ _ _ _ c.loop-i.invariant.4 c.loop-i.invariant.1.known
     (λ k. entry_within c.args.archive _ _ _ _ _ _ c.args.entries.now c.loop-i.i _ c.loop-i-test.true c.loop-i.invariant.1 k) c.loop-i.auto.taken c.in_err-visit_entry.ensures.stops known)
+
+pub returns-in_err-visit_entry-clause-full : goal.returns-in_err-visit_entry-clause-full
+returns-in_err-visit_entry-clause-full g c =
+    let p = err_from_is_err_and c.from_residual.result c.from_residual.ensures.1 in
+    rw (p.1, p.2) c.in_err-visit_entry.ensures.full

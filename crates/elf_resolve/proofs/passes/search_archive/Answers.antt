@@ -46,3 +46,8 @@ pub returns-then-asked-before-clause-names : goal.returns-then-asked-before-clau
 returns-then-asked-before-clause-names g c known =
     (held_then _ _ _ _ (g.M.ArchiveObjects.named c.pass_index.new.members) _ _ c.pass_index.new.link.rows.rows _ _ (g.M.ArchiveObjects.names c.pass_index.new.members) _ c.loop.invariant.1.known c.loop.invariant.4 c.pass_index.ensures.named
     c.in_ok-pass_index.ensures.names).keeps known
+
+pub returns-in_err-pass_index-clause-full : goal.returns-in_err-pass_index-clause-full
+returns-in_err-pass_index-clause-full g c =
+    let p = err_from_is_err_and c.from_residual.result c.from_residual.ensures.1 in
+    rw (p.1, p.2) c.in_err-pass_index.ensures.full

@@ -11,7 +11,7 @@ use Rattle.elf_resolve.specs.RowNames.{KeepsMemberNames}
 use Rattle.elf_resolve.proofs.RowNameLaws.{keeps_itself, keeps_member}
 use Rattle.elf_resolve.proofs.PassLaws.{visited_again, visited_takes, visited_unasked}
 use Rattle.elf_resolve.proofs.PassingLaws.{member_by}
-use Rattle.elf_resolve.proofs.SearchStopLaws.{added_none, added_one, halts_at, stops_at, untaken_within, visit_adds}
+use Rattle.elf_resolve.proofs.SearchStopLaws.{added_none, added_one, halts_at, member_stops, stops_at, untaken_within, visit_adds}
 use Rattle.elf_resolve.proofs.passes.visit_entry.Goals as goal
 
 pub returns-then-is_taken-clause-visits : goal.returns-then-is_taken-clause-visits
@@ -48,6 +48,16 @@ returns-in_err-asks_for-clause-stops g c known =
     let p = err_from_is_err_and c.from_residual.result c.from_residual.ensures.1 in
     rw (p.1, p.2) (halts_at (g.M.ArchiveObjects.refusal c.args.members.now) c.args.archive.input _ _ _ _ _ _ c.args.entry.member c.in_err-asks_for.field-0.0
     (untaken_within c.args.taken.now c.args.entry.member (sym c.is_taken.ensures ∙ c.if-is_taken.false)) (c.in_err-asks_for.ensures.halts known))
+
+pub returns-in_err-asks_for-clause-full : goal.returns-in_err-asks_for-clause-full
+returns-in_err-asks_for-clause-full g c =
+    let p = err_from_is_err_and c.from_residual.result c.from_residual.ensures.1 in
+    rw (p.1, p.2) (member_stops _ _ c.in_err-asks_for.ensures.of_member)
+
+pub returns-in_err-take-clause-full : goal.returns-in_err-take-clause-full
+returns-in_err-take-clause-full g c =
+    let p = err_from_is_err_and c.from_residual-in_err-take.result c.from_residual-in_err-take.ensures.1 in
+    rw (p.1, p.2) (member_stops _ _ c.in_err-take.ensures.of_member)
 
 pub returns-in_err-take-clause-stops : goal.returns-in_err-take-clause-stops
 returns-in_err-take-clause-stops g c known =
