@@ -9,6 +9,7 @@ use Rattle.elf_model.specs.LinkKeys.{no_keys, symbols_taken}
 use Rattle.elf_model.specs.declared.link_states.LinkRow.{LinkRow}
 use Rattle.elf_model.specs.declared.link_states.LinkRowKind.TheVariants.{Archive}
 use Rattle.elf_resolve.specs.KeptLimits.{KeepsLimits}
+use Rattle.elf_resolve.specs.LinkFaults.{fault_of_key}
 use Rattle.elf_resolve.specs.LinkMembers.{file_of_range}
 use Rattle.elf_resolve.specs.LinkPlaces.{IsLinkAt, is_new_input}
 use Rattle.elf_resolve.specs.ListRooms.{HasListRoom, KeepsLists, KeepsWithin}
@@ -16,13 +17,16 @@ use Rattle.elf_resolve.specs.OpenedArchives.{AreDistinctArchives, AreOpened, IsI
 use Rattle.elf_resolve.specs.Plans.{IsKnownFile, file_of_kind, is_archive_kind}
 use Rattle.elf_resolve.specs.Resolved.{linking_of}
 use Rattle.elf_resolve.specs.RowTables.{AddedRow}
+use Rattle.elf_resolve.specs.Symbols.{NotUsedName}
 use Rattle.elf_resolve.specs.Taken.{ReadIndex, data_of, header_of}
 use Rattle.elf_resolve.specs.declared.archives.OpenedArchive.{OpenedArchive}
+use Rattle.elf_resolve.specs.declared.link_faults.LinkFault.{LinkFault}
 use Rattle.elf_resolve.specs.declared.link_files.LinkInput.{LinkInput}
 use Rattle.elf_resolve.specs.declared.link_files.LinkPlan.{LinkPlan}
 use Rattle.elf_resolve.specs.declared.resolver.InputState.TheVariants as state
 use Rattle.elf_resolve.specs.declared.resolver.Resolver.{Resolver}
 use Rattle.elf_resolve.specs.declared.room.LinkCaps.{LinkCaps}
+use Rattle.elf_resolve.specs.declared.table.KeyFault.{KeyFault}
 use Rattle.elf_source.specs.Source.{SourceState}
 
 -- A LINK WITHOUT SHARED LIBRARIES: its archives are opened files, each input's state is that of its
@@ -178,3 +182,10 @@ pub record AskedNames (old new : Resolver) (names : List (List ℕ)) : Type 0 wh
   pub same : new ≡ record old { link = record old.link { keys = new.link.keys } }
   pub keys : new.link.keys.keys ≡ symbols_taken None old.link.keys.keys (map argument_symbol names)
   pub limits : KeepsLimits old.link.keys new.link.keys
+
+-- there was no room for one: of all else nothing changed
+pub record NotAsked (old new : Resolver) (name : List ℕ) (fault : LinkFault) : Type 0 where
+  pub same : new ≡ record old { link = record old.link { keys = new.link.keys } }
+  pub why : KeyFault
+  pub fault_is : fault ≡ fault_of_key 0 why
+  pub not_used : NotUsedName old.link.keys new.link.keys name why

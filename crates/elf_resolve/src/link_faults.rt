@@ -2,7 +2,7 @@
 ghost use Rattle.std.specs.Prelude.{◌≡◌, ◌≤◌, length, Err, None, Option};
 ghost use Rattle.elf_model.specs.LinkArchives.{link_cause_word, moved};
 ghost use Rattle.elf_model.specs.declared.link_states.LinkRefusal.{LinkRefusal as LinkRefusal};
-ghost use Rattle.elf_resolve.specs.LinkFaults.{MovesWithin, fault_of_table};
+ghost use Rattle.elf_resolve.specs.LinkFaults.{MovesWithin, fault_of_key, fault_of_table};
 ghost use Rattle.elf_resolve.specs.Taken.{IsLinkFault};
 
 use crate::table::KeyFault;
@@ -55,7 +55,8 @@ pub(crate) fn file_refused<T>(at: u64, cause: Cause) -> Result<T, LinkFault>
 
 /// Returns the refusal for lack of room for a name, which is at a file offset.
 pub(crate) fn full(at: u64, fault: KeyFault) -> LinkFault
-    ensures { IsLinkFault None result }
+    ensures is { result ≡ fault_of_key at fault }
+    ensures limit { IsLinkFault None result }
 {
     let cause = match fault {
         KeyFault::TooManyKeys | KeyFault::TooManyBytes => LinkCause::TooManyKeys,

@@ -17,7 +17,7 @@ ghost use Rattle.elf_resolve.specs.OwnLinks.{IsOwnLink};
 ghost use Rattle.elf_resolve.specs.Plans.{IsStaticPlan, planned_files, plan_steps};
 ghost use Rattle.elf_resolve.specs.Resolved.{linking_of};
 ghost use Rattle.elf_resolve.specs.NamedRows.{HasNames};
-ghost use Rattle.elf_resolve.specs.ResolvedInputs.{AddedRowOf, AskedNames, HasRoomOf, IsFresh, TookAll};
+ghost use Rattle.elf_resolve.specs.ResolvedInputs.{AddedRowOf, AskedNames, HasRoomOf, IsFresh, NotAsked, TookAll};
 ghost use Rattle.elf_resolve.specs.StaticLinks.{AreKeysListed};
 ghost use Rattle.elf_resolve.specs.ReadBudgets.{KeepsToBudget};
 
@@ -153,6 +153,7 @@ impl<'a> Resolver<'a> {
     #[tactic(auto, unfolding(elf_model::specs::LinkKeys::symbol_taken))]
     pub fn ask(&mut self, name: &[u8]) -> Result<(), LinkFault>
         ensures asks { OnOk result (AskedNames self.old self.new (name.now ∷ [])) }
+        ensures full { IfErr result (NotAsked self.old self.new name.now) }
         ensures limit { IfErr result (IsLinkFault None) }
     {
         match self.link.keys.use_name(name, ASKED, None) {

@@ -39,4 +39,4 @@ returns-in-Ok-false c = λ file viewed held kind.
     (once_is file c.args.section f.0 _ kind f.1 test) (rw c.in-Ok-false.field-0-test at (rw same at c.in-Ok-false.ensures)) refl
 
 pub returns-in-Err : goal.returns-in-Err
-returns-in-Err c = λ file viewed held kind. fault_of_any (refusal_of (groups_at file c.args.section)) c.full.result c.full.ensures
+returns-in-Err c = λ file viewed held kind. fault_of_any (refusal_of (groups_at file c.args.section)) c.full.result c.full.ensures.limit

@@ -34,4 +34,4 @@ returns-in-Ok c = λ file dropped viewed held marked.
     (rw same at (c.in-Ok.ensures))
 
 pub returns-in-Err : goal.returns-in-Err
-returns-in-Err c = λ file dropped viewed held marked. fault_of_any (refusal_of (named_sections file c.args.section)) c.full.result c.full.ensures
+returns-in-Err c = λ file dropped viewed held marked. fault_of_any (refusal_of (named_sections file c.args.section)) c.full.result c.full.ensures.limit
