@@ -45,13 +45,13 @@ second_used old now new s row name two ends first second = record {
 }
 
 -- one whose first name can't be used, and one whose second can't
-pub first_not_used : (old new : KeyList) (s : LinkSymbol) (fault : KeyFault) → NotUsedName old new s.name fault → NotTookSymbol old new s fault
+pub first_not_used : (old new : KeyList) (s : LinkSymbol) (fault : KeyFault) → NotUsedName old new s.name s.symbol fault → NotTookSymbol old new s fault
 first_not_used old new s fault first = record { limits = first.limits; full = inl first.full }
 
-pub second_not_used : (old now new : KeyList) (s : LinkSymbol) (row : Option ℕ) (name : List ℕ) (fault : KeyFault) → s.default_name ≡ Some name → UsedName old now s.name s.symbol row → NotUsedName now new name fault → NotTookSymbol old new s fault
+pub second_not_used : (old now new : KeyList) (s : LinkSymbol) (row : Option ℕ) (name : List ℕ) (fault : KeyFault) → s.default_name ≡ Some name → UsedName old now s.name s.symbol row → NotUsedName now new name s.symbol fault → NotTookSymbol old new s fault
 second_not_used old now new s row name fault two first second = record {
   limits = record { most = second.limits.most ∙ first.most; most_further = second.limits.most_further ∙ first.most_further };
-  full = inr (subst (λ d. LacksRoomForSome new d fault) (sym two) second.full);
+  full = inr (subst (λ d. LacksRoomForSome new d s.symbol fault) (sym two) second.full);
 }
 
 -- one symbol more

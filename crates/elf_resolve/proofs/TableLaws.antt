@@ -3,7 +3,7 @@ use Rattle.std.proofs.Common.{◌≡◌, ℕ, ◌+◌, Bool, true, false, cond, 
 use Rattle.std.specs.Prelude.{Option, None, Some, bytes_eq}
 use Rattle.std.specs.Map.{lookup}
 use Rattle.std.proofs.lemmas.Slice.Eq.{bytes_eq-Decides}
-use Rattle.elf_model.specs.LinkKeys.{entered, entered_at, entry_named_as, key_index, index_or, key_in, key_used, name_used, new_key, with_entry}
+use Rattle.elf_model.specs.LinkKeys.{LinkKeys, entered, entered_at, entry_named, entry_named_as, is_further, key_entry, key_index, index_or, key_in, key_used, name_used, new_key, with_entry}
 use Rattle.elf_model.specs.LinkObjects.{is_kept, kept, name_noted, signature_kept}
 use Rattle.elf_model.specs.declared.link_states.KeyEntry.{KeyEntry}
 use Rattle.elf_model.specs.declared.link_states.SymbolUse.{SymbolUse}
@@ -116,14 +116,30 @@ name_used_by old now new name index symbol row before new_is = record {
 }
 
 -- a name that can't be entered, and one that was entered and can't be used
-pub not_entered_used : (old new : KeyList) (name : List ℕ) (fault : KeyFault) → NotEntered old new name fault → NotUsedName old new name fault
-not_entered_used old new name fault not = record {
+pub not_entered_used : (old new : KeyList) (name : List ℕ) (symbol : SymbolUse) (fault : KeyFault) → NotEntered old new name fault → NotUsedName old new name symbol fault
+not_entered_used old new name symbol fault not = record {
   limits = record { most = ap (λ (t : KeyList). t.most) not.same; most_further = ap (λ (t : KeyList). t.most_further) not.same };
-  full = subst (λ t. LacksRoom t name fault) (sym not.same) (inl (not.absent, not.full));
+  full = subst (λ t. LacksRoom t name symbol fault) (sym not.same) (inl (not.absent, not.full));
 }
 
-pub entered_not_used : (old now new : KeyList) (name : List ℕ) (index : ℕ) (symbol : SymbolUse) (fault : KeyFault) → Entered old now name index → NotUsed now new index symbol fault → NotUsedName old new name fault
+entry_entered : (keys : LinkKeys) (name : List ℕ) (found : Option ℕ) → key_in keys.names name ≡ found
+    → key_entry (key_in (entered_at found keys name).names name) (entered_at found keys name) ≡ entry_named_as (entered_at found keys name) (index_or found (length keys.names))
+entry_entered keys name None absent =
+    ap (λ p. key_entry p (entered_at None keys name)) (position_push_new (bytes_eq name) keys.names name absent ((bytes_eq-Decides name name).1 refl))
+entry_entered keys name (Some index) found = ap (λ p. key_entry p keys) found
+
+entry_of_entered : (keys : LinkKeys) (name : List ℕ) → entry_named (entered keys name) name ≡ entry_named_as (entered keys name) (key_index keys name)
+unfolding entered key_index entry_named
+entry_of_entered keys name = entry_entered keys name (key_in keys.names name) refl
+
+pub entered_not_used : (old now new : KeyList) (name : List ℕ) (index : ℕ) (symbol : SymbolUse) (fault : KeyFault) → Entered old now name index → NotUsed now new index symbol fault → NotUsedName old new name symbol fault
 entered_not_used old now new name index symbol fault before not = record {
   limits = record { most = ap (λ (t : KeyList). t.most) not.same ∙ before.most; most_further = ap (λ (t : KeyList). t.most_further) not.same ∙ before.most_further };
-  full = subst (λ t. LacksRoom t name fault) (sym not.same) (inr (not.fault_is, not.full));
+  full = subst (λ t. LacksRoom t name symbol fault) (sym not.same) (inr (
+    not.fault_is,
+    ap (λ e. is_further e symbol)
+        (ap (λ k. entry_named k name) before.keys ∙ entry_of_entered old.keys name ∙ ap (λ k. entry_named_as k (key_index old.keys name)) (sym before.keys) ∙ ap (λ i. entry_named_as now.keys i) (sym before.index_is))
+        ∙ not.once_more,
+    not.full,
+  ));
 }

@@ -1,9 +1,9 @@
 -- What a table of keys holds, and what a name and a symbol do to it.
-use Rattle.std.specs.Prelude.{ℕ, ◌≡◌, ◌+◌, ◌≤◌, ◌<◌, ◌^◌, Bool, List, [], length, Option, None, Some, Result, Ok, Err, bytes_eq}
+use Rattle.std.specs.Prelude.{ℕ, ◌≡◌, ◌+◌, ◌≤◌, ◌<◌, ◌^◌, Bool, true, List, [], length, Option, None, Some, Result, Ok, Err, bytes_eq}
 use Rattle.std.specs.Borrow.{Bor}
 use Rattle.std.specs.List.{count_by}
 use Rattle.std.specs.Map.{lookup}
-use Rattle.elf_model.specs.LinkKeys.{LinkKeys, entered, entry_named_as, further_after, key_index, key_in, key_used}
+use Rattle.elf_model.specs.LinkKeys.{LinkKeys, entered, entry_named_as, further_after, is_further, key_index, key_in, key_used}
 use Rattle.elf_model.specs.LinkObjects.{is_kept, name_noted, signature_kept}
 use Rattle.elf_model.specs.declared.link_states.FurtherDefinition.{FurtherDefinition}
 use Rattle.elf_model.specs.declared.link_states.KeyEntry.{KeyEntry}
@@ -78,19 +78,21 @@ pub record AddedFurther (old new : List FurtherDefinition) (most : ℕ) (definit
   pub items : new ≡ further_after old definition.key definition.row is_one
   pub within : length new ≤ most
 
-pub record NotAddedFurther (old new : List FurtherDefinition) (most : ℕ) (fault : KeyFault) : Type 0 where
+pub record NotAddedFurther (old new : List FurtherDefinition) (most : ℕ) (is_one : Bool) (fault : KeyFault) : Type 0 where
   pub same : new ≡ old
   pub fault_is : fault ≡ TooManyFurther
+  pub is : is_one ≡ true
   pub full : length old ≡ most
 
 abbrev pub AddsFurther : List FurtherDefinition → List FurtherDefinition → (most : ℕ) → FurtherDefinition → (is_one : Bool) → Result (Unit {0}) KeyFault → Type 0
 AddsFurther old new most definition is_one (Ok done) = AddedFurther old new most definition is_one
-AddsFurther old new most definition is_one (Err fault) = NotAddedFurther old new most fault
+AddsFurther old new most definition is_one (Err fault) = NotAddedFurther old new most is_one fault
 
 -- a key was not used: it is defined once more, and there is no room
 pub record NotUsed (old new : KeyList) (index : ℕ) (symbol : SymbolUse) (fault : KeyFault) : Type 0 where
   pub same : new ≡ old
   pub fault_is : fault ≡ TooManyFurther
+  pub once_more : is_further (entry_named_as old.keys index) symbol ≡ true
   pub full : length old.keys.further ≡ old.most_further
 
 -- A KEY USED by a symbol of a row

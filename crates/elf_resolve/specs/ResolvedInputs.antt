@@ -188,4 +188,4 @@ pub record NotAsked (old new : Resolver) (name : List ℕ) (fault : LinkFault) :
   pub same : new ≡ record old { link = record old.link { keys = new.link.keys } }
   pub why : KeyFault
   pub fault_is : fault ≡ fault_of_key 0 why
-  pub not_used : NotUsedName old.link.keys new.link.keys name why
+  pub not_used : NotUsedName old.link.keys new.link.keys name (argument_symbol name).symbol why

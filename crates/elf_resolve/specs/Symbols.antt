@@ -1,7 +1,7 @@
 -- What the symbols of a file do to a table of keys.
-use Rattle.std.specs.Prelude.{ℕ, ◌≡◌, ◌+◌, ◌⊎◌, List, [], ◌∷◌, length, Option, None, Some, Result, Ok, Err}
+use Rattle.std.specs.Prelude.{ℕ, ◌≡◌, ◌+◌, ◌⊎◌, true, List, [], ◌∷◌, length, Option, None, Some, Result, Ok, Err}
 use Rattle.std.specs.Borrow.{Bor}
-use Rattle.elf_model.specs.LinkKeys.{LinkSymbol, key_in, name_used, symbol_taken, symbols_taken}
+use Rattle.elf_model.specs.LinkKeys.{LinkSymbol, entry_named, is_further, key_in, name_used, symbol_taken, symbols_taken}
 use Rattle.elf_model.specs.declared.link_states.SymbolUse.{SymbolUse}
 use Rattle.elf_resolve.specs.KeptLimits.{KeepsLimits}
 use Rattle.elf_resolve.specs.KeyTables.{IsFull, KeyList, fresh}
@@ -17,12 +17,12 @@ name_of_symbol_in (Some name) = Some name.now
 abbrev pub symbol_record : given.Symbol → LinkSymbol
 symbol_record s = record { name = s.name.now; default_name = name_of_symbol_in s.default_name; symbol = s.symbol }
 
--- why a name can't be used: it is new and can't be entered, or there is no room for a further
--- definition
-abbrev pub LacksRoom : KeyList → List ℕ → KeyFault → Type 0
-LacksRoom table name fault =
+-- why a symbol can't use a name: that is new and can't be entered, or defined once more, and there
+-- is no room for a further definition
+abbrev pub LacksRoom : KeyList → List ℕ → SymbolUse → KeyFault → Type 0
+LacksRoom table name symbol fault =
     ((key_in table.keys.names name ≡ None) × IsFull table name fault)
-    ⊎ ((fault ≡ TooManyFurther) × (length table.keys.further ≡ table.most_further))
+    ⊎ ((fault ≡ TooManyFurther) × (is_further (entry_named table.keys name) symbol ≡ true) × (length table.keys.further ≡ table.most_further))
 
 -- A NAME USED: it was entered
 pub record UsedName (old new : KeyList) (name : List ℕ) (symbol : SymbolUse) (row : Option ℕ) : Type 0 where
@@ -32,21 +32,21 @@ pub record UsedName (old new : KeyList) (name : List ℕ) (symbol : SymbolUse) (
   pub room : new.room + length (fresh old.keys name) ≡ old.room
 
 -- there was no room
-pub record NotUsedName (old new : KeyList) (name : List ℕ) (fault : KeyFault) : Type 0 where
+pub record NotUsedName (old new : KeyList) (name : List ℕ) (symbol : SymbolUse) (fault : KeyFault) : Type 0 where
   pub limits : KeepsLimits old new
-  pub full : LacksRoom new name fault
+  pub full : LacksRoom new name symbol fault
 
 abbrev pub UsesName : KeyList → KeyList → List ℕ → SymbolUse → (row : Option ℕ) → Result (Unit {0}) KeyFault → Type 0
 UsesName old new name symbol row (Ok done) = UsedName old new name symbol row
-UsesName old new name symbol row (Err fault) = NotUsedName old new name fault
+UsesName old new name symbol row (Err fault) = NotUsedName old new name symbol fault
 
 -- why a symbol can't be taken: its name can't be used, or that without the version
-abbrev pub LacksRoomForSome : KeyList → Option (List ℕ) → KeyFault → Type 0
-LacksRoomForSome table None fault = ⊥
-LacksRoomForSome table (Some name) fault = LacksRoom table name fault
+abbrev pub LacksRoomForSome : KeyList → Option (List ℕ) → SymbolUse → KeyFault → Type 0
+LacksRoomForSome table None symbol fault = ⊥
+LacksRoomForSome table (Some name) symbol fault = LacksRoom table name symbol fault
 
 abbrev pub LacksRoomForSymbol : KeyList → LinkSymbol → KeyFault → Type 0
-LacksRoomForSymbol table symbol fault = LacksRoom table symbol.name fault ⊎ LacksRoomForSome table symbol.default_name fault
+LacksRoomForSymbol table s fault = LacksRoom table s.name s.symbol fault ⊎ LacksRoomForSome table s.default_name s.symbol fault
 
 -- A SYMBOL TAKEN
 pub record TookSymbol (old new : KeyList) (symbol : LinkSymbol) (row : Option ℕ) : Type 0 where

@@ -11,7 +11,7 @@ use_key-requires c =
 pub returns-in_err-index : goal.returns-in_err-index
 returns-in_err-index c =
     let p = err_from_is_err_and c.from_residual.result c.from_residual.ensures.1 in
-    rw (p.1, p.2) (not_entered_used _ _ _ _ c.in_err-index.ensures)
+    rw (p.1, p.2) (not_entered_used _ _ _ _ _ c.in_err-index.ensures)
 
 pub returns-in_err-use_key : goal.returns-in_err-use_key
 returns-in_err-use_key c =
