@@ -8,7 +8,7 @@ use Rattle.elf_model.specs.LinkObjects.{is_kept, kept, name_noted, signature_kep
 use Rattle.elf_model.specs.declared.link_states.KeyEntry.{KeyEntry}
 use Rattle.elf_model.specs.declared.link_states.SymbolUse.{SymbolUse}
 use Rattle.elf_resolve.specs.KeyTables.{Entered, FindsKeys, KeptGroup, NotEntered, NotUsed, NotedSection, KeyList, fresh, fresh_or}
-use Rattle.elf_resolve.specs.Symbols.{LacksRoom, NotUsedName, UsedName}
+use Rattle.elf_resolve.specs.Symbols.{LacksRoomForUse, NotUsedName, UsedName}
 use Rattle.elf_resolve.specs.declared.table.KeyFault.{KeyFault}
 use Rattle.elf_resolve.proofs.ListLaws.{position_push_new, position_push_other}
 
@@ -119,7 +119,7 @@ name_used_by old now new name index symbol row before new_is = record {
 pub not_entered_used : (old new : KeyList) (name : List ℕ) (symbol : SymbolUse) (fault : KeyFault) → NotEntered old new name fault → NotUsedName old new name symbol fault
 not_entered_used old new name symbol fault not = record {
   limits = record { most = ap (λ (t : KeyList). t.most) not.same; most_further = ap (λ (t : KeyList). t.most_further) not.same };
-  full = subst (λ t. LacksRoom t name symbol fault) (sym not.same) (inl (not.absent, not.full));
+  full = subst (λ t. LacksRoomForUse t name symbol fault) (sym not.same) (inl (not.absent, not.full));
 }
 
 entry_entered : (keys : LinkKeys) (name : List ℕ) (found : Option ℕ) → key_in keys.names name ≡ found
@@ -135,7 +135,7 @@ entry_of_entered keys name = entry_entered keys name (key_in keys.names name) re
 pub entered_not_used : (old now new : KeyList) (name : List ℕ) (index : ℕ) (symbol : SymbolUse) (fault : KeyFault) → Entered old now name index → NotUsed now new index symbol fault → NotUsedName old new name symbol fault
 entered_not_used old now new name index symbol fault before not = record {
   limits = record { most = ap (λ (t : KeyList). t.most) not.same ∙ before.most; most_further = ap (λ (t : KeyList). t.most_further) not.same ∙ before.most_further };
-  full = subst (λ t. LacksRoom t name symbol fault) (sym not.same) (inr (
+  full = subst (λ t. LacksRoomForUse t name symbol fault) (sym not.same) (inr (
     not.fault_is,
     ap (λ e. is_further e symbol)
         (ap (λ k. entry_named k name) before.keys ∙ entry_of_entered old.keys name ∙ ap (λ k. entry_named_as k (key_index old.keys name)) (sym before.keys) ∙ ap (λ i. entry_named_as now.keys i) (sym before.index_is))

@@ -17,10 +17,10 @@ name_of_symbol_in (Some name) = Some name.now
 abbrev pub symbol_record : given.Symbol → LinkSymbol
 symbol_record s = record { name = s.name.now; default_name = name_of_symbol_in s.default_name; symbol = s.symbol }
 
--- why a symbol can't use a name: that is new and can't be entered, or defined once more, and there
--- is no room for a further definition
-abbrev pub LacksRoom : KeyList → List ℕ → SymbolUse → KeyFault → Type 0
-LacksRoom table name symbol fault =
+-- why a symbol can't use a name: it is new and can't be entered, or the symbol defines it once more,
+-- and there is no room for a further definition
+abbrev pub LacksRoomForUse : KeyList → List ℕ → SymbolUse → KeyFault → Type 0
+LacksRoomForUse table name symbol fault =
     ((key_in table.keys.names name ≡ None) × IsFull table name fault)
     ⊎ ((fault ≡ TooManyFurther) × (is_further (entry_named table.keys name) symbol ≡ true) × (length table.keys.further ≡ table.most_further))
 
@@ -34,7 +34,7 @@ pub record UsedName (old new : KeyList) (name : List ℕ) (symbol : SymbolUse) (
 -- there was no room
 pub record NotUsedName (old new : KeyList) (name : List ℕ) (symbol : SymbolUse) (fault : KeyFault) : Type 0 where
   pub limits : KeepsLimits old new
-  pub full : LacksRoom new name symbol fault
+  pub full : LacksRoomForUse new name symbol fault
 
 abbrev pub UsesName : KeyList → KeyList → List ℕ → SymbolUse → (row : Option ℕ) → Result (Unit {0}) KeyFault → Type 0
 UsesName old new name symbol row (Ok done) = UsedName old new name symbol row
@@ -43,10 +43,10 @@ UsesName old new name symbol row (Err fault) = NotUsedName old new name symbol f
 -- why a symbol can't be taken: its name can't be used, or that without the version
 abbrev pub LacksRoomForSome : KeyList → Option (List ℕ) → SymbolUse → KeyFault → Type 0
 LacksRoomForSome table None symbol fault = ⊥
-LacksRoomForSome table (Some name) symbol fault = LacksRoom table name symbol fault
+LacksRoomForSome table (Some name) symbol fault = LacksRoomForUse table name symbol fault
 
 abbrev pub LacksRoomForSymbol : KeyList → LinkSymbol → KeyFault → Type 0
-LacksRoomForSymbol table s fault = LacksRoom table s.name s.symbol fault ⊎ LacksRoomForSome table s.default_name s.symbol fault
+LacksRoomForSymbol table s fault = LacksRoomForUse table s.name s.symbol fault ⊎ LacksRoomForSome table s.default_name s.symbol fault
 
 -- A SYMBOL TAKEN
 pub record TookSymbol (old new : KeyList) (symbol : LinkSymbol) (row : Option ℕ) : Type 0 where
