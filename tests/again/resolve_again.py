@@ -131,9 +131,10 @@ class Jobs(Counts):
 
     def versions_of_each(self):
         """Two libraries of which the second lacks records of versions: those of the first are not its own."""
-        defined = shared_library([Symbol(b"f@@V1", TEXT, 1, FUNC, 0, 4), Symbol(b"g@V2")], b"d.so", (), [b"V1"], [b"V2", b"V3"])
-        for kind, name in ((VERDEF, b"definitions"), (VERNEED, b"needs")):
-            lacking = bytearray(defined)
+        symbols = [Symbol(b"f@@V1", TEXT, 1, FUNC, 0, 4), Symbol(b"g@V2")]
+        defined, other = (shared_library(symbols, name, (), [b"V1"], [b"V2", b"V3"]) for name in (b"d.so", b"e.so"))
+        for kind, name in ((VERDEF, "definitions"), (VERNEED, "needs")):
+            lacking = bytearray(other)
             at = lacking.index(struct.pack("<I", kind), int.from_bytes(lacking[40:48], "little"))
             lacking[at:at + 4] = struct.pack("<I", 1)
             files = {b"o.o": relocatable([Symbol(b"f"), Symbol(b"g", TEXT)]), b"d.so": defined, b"e.so": bytes(lacking)}
