@@ -16,6 +16,7 @@ and one passed."""
 import itertools
 import os
 import random
+import struct
 import subprocess
 import sys
 import tempfile
@@ -25,7 +26,7 @@ sys.path.insert(0, os.path.join(os.path.dirname(os.path.realpath(__file__)), "..
 import made_archives  # pylint: disable=wrong-import-position
 import made_links  # pylint: disable=wrong-import-position
 import resolved  # pylint: disable=wrong-import-position
-from made_links import (ABS, COMMON, DATA, FUNC, OBJECT, TEXT, UNDEF, WEAK, Symbol, archive, relocatable)  # pylint: disable=wrong-import-position
+from made_links import (ABS, BSS, COMMON, DATA, FUNC, OBJECT, TEXT, UNDEF, VERDEF, VERNEED, WEAK, Symbol, archive, relocatable, shared_library)  # pylint: disable=wrong-import-position
 from testing import Counts, option_reader, program_of  # pylint: disable=wrong-import-position
 
 SMALL = ["--keys", "2000", "--key-bytes", "100000", "--index", "2000", "--rows", "500", "--headers", "200"]
@@ -75,10 +76,89 @@ class Jobs(Counts):
             files[b"t%d.o" % place] = relocatable([symbol for symbol in symbols if symbol])
         self.compare(f"{len(chosen)} orders of three kinds", files, [b"-e", b"0", *sorted(files)])
 
+    def needed_names(self):
+        """A library that is taken as needed, of which an object or another library, before it, refers to a name, and which others name
+        as needed: one that is part of the link, and one that is taken as needed itself."""
+        references = {"none": [], "weak": [Symbol(b"f", UNDEF, WEAK)], "strong": [Symbol(b"f")]}
+        definer = shared_library([Symbol(b"f", TEXT, 1, FUNC, 0, 4)], b"b.so")
+        for (by_object, of_object), (by_library, of_library) in itertools.product(references.items(), repeat=2):
+            for first, between in itertools.product(([], [b"b.so"], [b"c.so"], [b"other.so", b"b.so"]), repeat=2):
+                files = {b"o.o": relocatable(of_object), b"a.so": shared_library(of_library, b"a.so", first),
+                         b"c.so": shared_library([Symbol(b"g", TEXT, 1, FUNC, 0, 4)], b"c.so", between), b"b.so": definer}
+                for words in ([b"a.so", b"--as-needed", b"c.so", b"b.so"], [b"c.so", b"a.so", b"--as-needed", b"b.so"],
+                              [b"--as-needed", b"a.so", b"c.so", b"--no-as-needed", b"a.so", b"--as-needed", b"b.so"]):
+                    words = [b"-e", b"0", b"o.o", *words]
+                    self.compare(f"{by_object} reference of an object, {by_library} of a library, {first}, {between}: {words}", files, words)
+
+    def default_versions(self):
+        """A key for each pair of symbols of two objects and one of a library between them, with a version, a default one or none."""
+        own = [(name, sort) for name in (b"%s", b"%s@V1", b"%s@@V1")
+               for sort in ("reference", "weak reference", "common of 4", "weak definition", "definition")]
+        shared = [(name, symbol) for name in (b"%s", b"%s@V1", b"%s@@V1")
+                  for symbol in ((TEXT, 1, FUNC), (TEXT, WEAK, FUNC), (DATA, 1, OBJECT), (BSS, 1, OBJECT), (UNDEF, 1, 0))]
+        chosen = list(itertools.product(own, shared, own))
+        for order in itertools.permutations((b"a.o", b"l.so", b"b.o")):
+            for begin in range(0, len(chosen), 300):
+                files = {b"a.o": [], b"l.so": [], b"b.o": []}
+                for number, (first, library, last) in enumerate(chosen[begin:begin + 300]):
+                    key = b"k%d" % number
+                    files[b"a.o"].append(SORTS[first[1]](first[0] % key))
+                    files[b"b.o"].append(SORTS[last[1]](last[0] % key))
+                    section, binding, kind = library[1]
+                    name = (library[0] if section else library[0].replace(b"@@", b"@")) % key
+                    files[b"l.so"].append(Symbol(name, section, binding, kind, 0, 8 if section else 0))
+                written = {name: relocatable(files[name]) for name in (b"a.o", b"b.o")}
+                written[b"l.so"] = shared_library(files[b"l.so"], b"l.so", (), [b"V1"], [b"V1"])
+                self.compare(f"versions from {begin} on of {order}", written, [b"-e", b"0", *order])
+
+    def rounds(self):
+        """Groups that are begun again: each input needs one that may be before it, and the last a library that is taken as needed."""
+        def needing(name, needed):
+            return relocatable([Symbol(name, TEXT), Symbol(needed)])
+        files = {b"o.o": relocatable([Symbol(b"first")]), b"1.a": archive([(b"m.o", needing(b"first", b"second"))], [(b"first", 0)]),
+                 b"2.a": archive([(b"m.o", needing(b"second", b"third")), (b"n.o", needing(b"third", b"fourth"))], [(b"third", 1), (b"second", 0)]),
+                 b"3.so": shared_library([Symbol(b"fourth", TEXT, 1, FUNC, 0, 4)], b"3.so"),
+                 b"4.so": shared_library([Symbol(b"fourth", TEXT, 1, FUNC, 0, 4), Symbol(b"first")], b"4.so")}
+        for order in itertools.permutations((b"1.a", b"2.a", b"3.so", b"4.so")):
+            for words in ([b"--as-needed", b"-(", *order, b"-)"], [b"-(", b"--as-needed", *order, b"-)", b"3.so"], [b"--as-needed", *order],
+                          [b"--as-needed", b"-(", order[0], b"-(", *order[1:3], b"-)", order[3], b"-)"],
+                          [b"-(", b"--as-needed", *order[:2], b"-)", b"--no-as-needed", b"-(", *order[2:], b"o.o", b"-)"]):
+                self.compare(f"rounds of {words}", files, [b"-e", b"0", b"o.o", *words])
+        for order in itertools.permutations((b"4.so", b"same.so", b"1.a", b"2.a")):
+            for words in ([b"--as-needed", b"-(", *order, b"-)"], [b"--as-needed", b"-(", order[0], b"-(", *order[1:], b"-)", b"-)"]):
+                same = {**files, b"same.so": shared_library([Symbol(b"fourth", DATA, 1, OBJECT, 0, 8)], b"4.so")}
+                self.compare(f"rounds of two of one name: {words}", same, [b"-e", b"0", b"o.o", *words])
+
+    def versions_of_each(self):
+        """Two libraries of which the second lacks records of versions: those of the first are not its own."""
+        symbols = [Symbol(b"f@@V1", TEXT, 1, FUNC, 0, 4), Symbol(b"g@V2")]
+        defined, other = (shared_library(symbols, name, (), [b"V1"], [b"V2", b"V3"]) for name in (b"d.so", b"e.so"))
+        for kind, name in ((VERDEF, "definitions"), (VERNEED, "needs")):
+            lacking = bytearray(other)
+            at = lacking.index(struct.pack("<I", kind), int.from_bytes(lacking[40:48], "little"))
+            lacking[at:at + 4] = struct.pack("<I", 1)
+            files = {b"o.o": relocatable([Symbol(b"f"), Symbol(b"g", TEXT)]), b"d.so": defined, b"e.so": bytes(lacking)}
+            for words in ([b"d.so", b"e.so"], [b"e.so", b"d.so"], [b"--as-needed", b"d.so", b"e.so"]):
+                self.compare(f"a library without version {name}: {words}", files, [b"-e", b"0", b"o.o", *words])
+        for count in (0, 1, 3, 65535):
+            for kind, width, field in ((VERDEF, 2, 6), (VERNEED, 2, 2), (VERDEF, 4, 16), (VERNEED, 4, 12)):
+                changed_file = bytearray(defined)
+                at = changed_file.index(struct.pack("<I", kind), int.from_bytes(changed_file[40:48], "little"))
+                record = int.from_bytes(changed_file[at + 20:at + 28], "little") + field
+                changed_file[record:record + width] = count.to_bytes(width, "little")
+                files = {b"o.o": relocatable([Symbol(b"f"), Symbol(b"g", TEXT)]), b"d.so": bytes(changed_file)}
+                self.compare(f"{count} at {field} of a record of type {kind:x}", files, [b"-e", b"0", b"o.o", b"d.so"])
+
     def random_jobs(self, rng, count):
         for number in range(count):
             files, words = made_links.random_job(rng, libraries=3 * (number % 2))
             self.compare(f"job {number}: {b' '.join(words).decode()}", files, words)
+
+    def jobs_of_libraries(self, rng, count):
+        """Links most of whose files are shared libraries, that share few names."""
+        for number in range(count):
+            files, words = made_links.random_job_of_libraries(rng, made_links.NAMES[:rng.choice((3, 5, 8))])
+            self.compare(f"libraries of job {number}: {b' '.join(words).decode()}", files, words)
 
     def changed_copies(self, rng, count):
         for number in range(count):
@@ -252,7 +332,12 @@ def main():
         jobs.malformed()
         jobs.limits()
         jobs.roots()
+        jobs.needed_names()
+        jobs.default_versions()
+        jobs.rounds()
+        jobs.versions_of_each()
         jobs.random_jobs(rng, count)
+        jobs.jobs_of_libraries(rng, count)
         jobs.changed_copies(rng, copies)
         jobs.budgets(rng, 5 if given.quick else 50)
         os.chdir("/")

@@ -8,7 +8,7 @@ WEAK, GLOBAL, UNIQUE = 2, 1, 10
 UNDEF, TEXT, DATA, ABS, COMMON, LARGE_COMMON = 0, 1, 2, 0xfff1, 0xfff2, 0xff02
 NOTYPE, OBJECT, FUNC, SECTION, IFUNC = 0, 1, 2, 3, 10
 PROGBITS, SYMTAB, STRTAB, RELA, DYNAMIC, NOBITS, DYNSYM, GROUP = 1, 2, 3, 4, 6, 8, 11, 17
-VERDEF, VERSYM = 0x6FFFFFFD, 0x6FFFFFFF
+VERDEF, VERNEED, VERSYM = 0x6FFFFFFD, 0x6FFFFFFE, 0x6FFFFFFF
 NEEDED, SONAME, DYN, BSS = 1, 14, 3, 3
 R_64 = 1
 IN_GROUP, ALLOC_WRITE, ALLOC_EXEC = 0x200, 3, 6
@@ -79,15 +79,19 @@ def laid_out(headers, names, file_type=1):
     return bytes(content + b"".join(rows))
 
 
-def shared_library(symbols, soname=None, needed=(), versions=()):
+def shared_library(symbols, soname=None, needed=(), versions=(), needed_versions=()):
     """A shared library: sections 1, 2 and 3 are its text, its data and its data without bytes. A symbol whose name has an `@`
-    has that version, which is one of `versions`, the default one after two."""
+    has that version: a definition one of `versions`, the default one after two, a reference one of `needed_versions`."""
     strings, names = Strings(), Strings()
     rows, indexes = [bytes(24)], [0]
     for symbol in symbols:
         name, _, version = symbol.name.partition(b"@")
-        number = versions.index(version.lstrip(b"@")) + 2 if version else 1
-        indexes.append(number | (0x8000 if version and not version.startswith(b"@") else 0))
+        number = 1
+        if version and symbol.section == UNDEF:
+            number = needed_versions.index(version) + 2 + len(versions)
+        elif version:
+            number = versions.index(version.lstrip(b"@")) + 2 | (0 if version.startswith(b"@") else 0x8000)
+        indexes.append(number)
         rows.append(Symbol(name, symbol.section, symbol.binding, symbol.kind, symbol.value, symbol.size).packed(strings))
     entries = [(NEEDED, strings.place(name)) for name in needed]
     entries += [] if soname is None else [(SONAME, strings.place(soname))]
@@ -96,10 +100,14 @@ def shared_library(symbols, soname=None, needed=(), versions=()):
                (b".data", PROGBITS, ALLOC_WRITE, bytes(64), 0, 0, 0), (b".bss", NOBITS, ALLOC_WRITE, 64, 0, 0, 0),
                (b".dynsym", DYNSYM, 2, b"".join(rows), 5, 1, 24)]
     records = version_records([soname or b"base", *versions], strings)
+    needs = need_records(needed_versions, 2 + len(versions), strings)
     headers += [(b".dynstr", STRTAB, 2, bytes(strings.content), 0, 0, 0), (b".dynamic", DYNAMIC, ALLOC_WRITE, dynamic, 5, 0, 16)]
+    if versions or needed_versions:
+        headers.append((b".gnu.version", VERSYM, 2, struct.pack(f"<{len(indexes)}H", *indexes), 4, 0, 2))
     if versions:
-        headers += [(b".gnu.version", VERSYM, 2, struct.pack(f"<{len(indexes)}H", *indexes), 4, 0, 2),
-                    (b".gnu.version_d", VERDEF, 2, records, 5, len(versions) + 1, 0)]
+        headers.append((b".gnu.version_d", VERDEF, 2, records, 5, len(versions) + 1, 0))
+    if needed_versions:
+        headers.append((b".gnu.version_r", VERNEED, 2, needs, 5, len(needed_versions), 0))
     return laid_out([*headers, (b".shstrtab", STRTAB, 0, None, 0, 0, 0)], names, DYN)
 
 
@@ -110,6 +118,19 @@ def version_records(versions, strings):
         is_last = number == len(versions) - 1
         records += struct.pack("<4H3I", 1, int(number == 0), number + 1, 1, sysv_hash(version), 20, 0 if is_last else 28)
         records += struct.pack("<2I", strings.place(version), 0)
+    return records
+
+
+def need_records(versions, first, strings):
+    """Needs of versions, with the indexes from the first on: of two files, the first of which has all but the last version."""
+    split = max(1, len(versions) - 1)
+    files = [(b"libneeded.so.1", versions[:split], first), (b"libneeded.so.2", versions[split:], first + split)]
+    files, records = [each for each in files if each[1]], b""
+    for place, (file, names, number) in enumerate(files):
+        is_last = place == len(files) - 1
+        records += struct.pack("<2H3I", 1, len(names), strings.place(file), 16, 0 if is_last else 16 + 16 * len(names))
+        for index, name in enumerate(names):
+            records += struct.pack("<I2H2I", sysv_hash(name), 0, number + index, strings.place(name), 0 if index == len(names) - 1 else 16)
     return records
 
 
@@ -190,24 +211,29 @@ def random_archive(rng, names):
 
 def random_library(rng, names, libraries):
     """A shared library that may need others, with versions or without."""
-    versions = rng.choice(([], [], [b"V1", b"V2"]))
+    versions, needed_versions = rng.choice(([], [], [b"V1", b"V2"])), rng.choice(([], [], [b"V1"], [b"V1", b"V2"]))
     chosen = {}
     for _ in range(rng.randrange(1, 6)):
         name, binding = rng.choice(names).partition(b"@")[0], rng.choice((GLOBAL, GLOBAL, WEAK))
-        sort = rng.randrange(6)
+        sort = rng.randrange(7)
         if sort == 0:
             symbol = Symbol(name, UNDEF, binding)
         elif sort == 1:
             symbol = Symbol(name, BSS, binding, OBJECT, 0, rng.choice((4, 16)))
         elif sort == 2:
             symbol = Symbol(name, DATA, binding, OBJECT, 0, 8)
+        elif sort == 3:
+            symbol = Symbol(name, LARGE_COMMON, binding, OBJECT, 0, 4)
         else:
             symbol = Symbol(name, TEXT, binding, FUNC, 0, 4)
         if versions and symbol.section != UNDEF and rng.random() < 0.7:
             symbol.name += rng.choice((b"@", b"@@", b"@@")) + rng.choice(versions)
+        if needed_versions and symbol.section == UNDEF and rng.random() < 0.7:
+            symbol.name += b"@" + rng.choice(needed_versions)
         chosen.setdefault(name, symbol)
     soname = rng.choice((None, *libraries))
-    return shared_library(list(chosen.values()), soname, [name for name in libraries if rng.random() < 0.2], versions)
+    needed = [name for name in libraries if rng.random() < 0.3]
+    return shared_library(list(chosen.values()), soname, needed, versions, needed_versions)
 
 
 def random_words(rng, files, depth=0):
@@ -226,6 +252,30 @@ def random_words(rng, files, depth=0):
         else:
             words.append(rng.choice(files))
     return words
+
+
+def random_words_of_libraries(rng, files):
+    """Words of a link, most of which are shared libraries, that are taken as needed or in any case."""
+    libraries, others = [name for name in files if name.endswith(b".so")], [name for name in files if not name.endswith(b".so")]
+    words = []
+    for _ in range(rng.randrange(2, 8)):
+        chance = rng.random()
+        if chance < 0.3:
+            words.append(rng.choice((b"--as-needed", b"--as-needed", b"--no-as-needed")))
+        elif chance < 0.7:
+            words.append(rng.choice(libraries))
+        elif chance < 0.8:
+            group = [rng.choice(libraries), rng.choice(files), rng.choice(libraries)]
+            words += [b"--start-group", *group[:rng.randrange(1, 4)], b"--end-group"]
+        else:
+            words.append(rng.choice(others))
+    return words
+
+
+def random_job_of_libraries(rng, names):
+    """Files by their names, and words over them, most of which are shared libraries."""
+    files, _ = random_job(rng, names, libraries=rng.randrange(2, 6))
+    return files, [b"o0.o", *random_words_of_libraries(rng, sorted(files))]
 
 
 def random_job(rng, names=NAMES, depth=2, libraries=0):

@@ -418,6 +418,30 @@ class Cases:
             is_other = (len(by_pages(asked, os.path.getsize(path))) < len(wanted)) == (count > FEWER)
             check(f"names in {count} pages: as many reads with all pages, or fewer", "" if is_other else "no difference")
 
+    def hardened_names(self):
+        """The names of 1,002 symbols of a library, each in a page of its own: once names have shown all traits that names show,
+        `traits` reads no more of them."""
+        names = [b"__stack_chk_fail", b"__memcpy_chk", *(b"name_%04d" % number for number in range(1000))]
+        strings = b"".join(name.ljust(PAGE, b"\0") for name in (b"\0" + names[0], *names[1:]))
+        offsets = [1, *(PAGE * number for number in range(1, len(names)))]
+        tags = FAR - PAGE
+        dynamic = struct.pack("<12Q", 4, FAR + PAGE * 16, 6, FAR, 5, FARTHER, 10, len(strings), 11, 24, 0, 0)
+        segments = struct.pack("<2I6Q", 1, 4, 0, 0, 0, FARTHER + len(strings), FARTHER + len(strings), PAGE)
+        segments += struct.pack("<2I6Q", 2, 4, tags, tags, tags, len(dynamic), len(dynamic), 8)
+        path = os.path.join(self.folder, "hardened")
+        for order, least, most in ((range(len(names)), 2, 2), (range(len(names) - 1, -1, -1), 1000, 1002)):
+            symbols = bytes(24) + b"".join(struct.pack("<IBBHQQ", offsets[place], 0x12, 0, 0, 0, 0) for place in order)
+            table = struct.pack("<2I", 1, 1 + len(names))
+            with open(path, "wb") as file:
+                for at, data in ((0, file_header(3, segments=2) + segments), (tags, dynamic), (FAR, symbols), (FAR + PAGE * 16, table),
+                                 (FARTHER, strings)):
+                    file.seek(at)
+                    file.write(data)
+            run = Run(self.program, ["traits", *BUDGET, path], path)
+            found = within(run.reads, FARTHER, len(strings))
+            wrong = "" if run.status == 0 and b"canary" in run.text and least <= len(found) <= most else f"{run.status} {len(found)} {run.text}"
+            check(f"traits by {len(names)} names, the {'last' if order[0] else 'first'} two show both: reads of names", wrong)
+
     def long_names(self):
         """100 symbols with names of 4,096 bytes."""
         strings = b"\0" + (b"n" * 4096 + b"\0") * 100
@@ -618,7 +642,7 @@ def main():
             if platform.machine() != "x86_64":
                 raise Untraced
             for case in (cases.headers, cases.unopened, cases.tables, cases.notes, cases.names,
-                         cases.scattered_names, cases.few_addresses, cases.long_names, cases.sections, cases.lookups, cases.folders, cases.checks, cases.pieces, cases.archives, cases.needs, cases.failing_output):
+                         cases.scattered_names, cases.hardened_names, cases.few_addresses, cases.long_names, cases.sections, cases.lookups, cases.folders, cases.checks, cases.pieces, cases.archives, cases.needs, cases.failing_output):
                 case()
         except Untraced:
             print("skipped the counts of calls: this system lets no process trace another")
