@@ -71,3 +71,8 @@ pub mod LinkEndLaws
 pub mod MarkedRowLaws
 pub mod KeyMarkLaws
 pub mod ProblemLineLaws
+pub mod VersionPlaceLaws
+pub mod VersionNeedLaws
+pub mod VersionDefinitionLaws
+pub mod VersionNameLaws
+pub mod VersionWalkLaws

@@ -48,6 +48,8 @@ pub mod MarkedRows
 pub mod ProblemLines
 pub mod LibrarySymbols
 pub mod VersionTexts
+pub mod LibraryVersions
+pub mod VersionWalks
 pub mod KeyMarks
 pub mod LibraryNeeds
 pub mod SearchStops
