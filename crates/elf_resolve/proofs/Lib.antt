@@ -76,3 +76,5 @@ pub mod VersionNeedLaws
 pub mod VersionDefinitionLaws
 pub mod VersionNameLaws
 pub mod VersionWalkLaws
+pub mod LibrarySymbolLaws
+pub mod LibraryTakenLaws
