@@ -71,3 +71,10 @@ pub mod LinkEndLaws
 pub mod MarkedRowLaws
 pub mod KeyMarkLaws
 pub mod ProblemLineLaws
+pub mod VersionPlaceLaws
+pub mod VersionNeedLaws
+pub mod VersionDefinitionLaws
+pub mod VersionNameLaws
+pub mod VersionWalkLaws
+pub mod LibrarySymbolLaws
+pub mod LibraryTakenLaws

@@ -48,6 +48,10 @@ pub mod MarkedRows
 pub mod ProblemLines
 pub mod LibrarySymbols
 pub mod VersionTexts
+pub mod LibraryVersions
+pub mod VersionWalks
+pub mod LibraryKeys
+pub mod LibraryTables
 pub mod KeyMarks
 pub mod LibraryNeeds
 pub mod SearchStops

@@ -56,6 +56,7 @@ mod string_buffer;
 mod symbols;
 mod table;
 mod version_names;
+mod version_records;
 mod whole_archives;
 
 pub use budgeted_files::BudgetedFiles;

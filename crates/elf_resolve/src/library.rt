@@ -1,11 +1,14 @@
 //! A shared library of a link: its symbols with their versions, and what its dynamic entries say.
-ghost use Rattle.std.specs.Prelude.{◌≡◌};
+ghost use Rattle.std.specs.Prelude.{◌≡◌, ◌+◌, ◌*◌, ◌<◌, ◌^◌, List, ℕ};
+ghost use Rattle.elf_resolve.specs.LibraryKeys.{version_word};
+ghost use Rattle.elf_resolve.specs.LibraryTables.{FindsWord, HoldsIndexes, range_of_symbols};
 
 use crate::libraries::LibraryList;
 use crate::link_faults::{LinkFault, file_refused};
 use crate::object::{SymbolRows, read_first_symbols, read_names};
 use crate::string_buffer::{HeldText, StringBuffer, part_of};
-use crate::version_names::{VersionNames, VersionSection};
+use crate::version_names::VersionNames;
+use crate::version_records::VersionSection;
 use elf_record::gnu_numbers::{SHT_GNU_VERDEF, SHT_GNU_VERNEED, SHT_GNU_VERSYM};
 use elf_record::numbers::{DT_NEEDED, DT_NULL, DT_SONAME, SHT_DYNAMIC, SHT_DYNSYM};
 use elf_record::{Cause, u16_at, u64_at};
@@ -191,7 +194,9 @@ fn read_records<S: Source>(
 
 impl LibraryTables {
     /// Returns the index of the first symbol that is not local, and that after the last.
-    pub(crate) fn symbol_range(&self) -> (u64, u64) {
+    pub(crate) fn symbol_range(&self) -> (u64, u64)
+        ensures { result ≡ range_of_symbols self.now.symbols }
+    {
         match self.symbols {
             Some(symbols) => (symbols.first, symbols.count),
             None => (0, 0),
@@ -273,7 +278,10 @@ impl VersionRows {
     ///
     /// # Errors
     /// `VersionCut` at the section's header if it has none for it.
-    pub(crate) fn index(&self, strings: &StringBuffer, symbol: u64) -> Result<u16, LinkFault> {
+    pub(crate) fn index(&self, strings: &StringBuffer, symbol: u64) -> Result<u16, LinkFault>
+        ensures { (file : List ℕ) (at : ℕ) → HoldsIndexes file strings.now.bytes at self.now →
+            FindsWord (version_word file at symbol) result }
+    {
         let start = (symbol as usize).saturating_mul(INDEX_BYTES);
         let bytes = part_of(strings.bytes(self.rows), start, INDEX_BYTES);
         if bytes.len() < INDEX_BYTES {
@@ -283,7 +291,9 @@ impl VersionRows {
     }
 
     /// Returns the file offset of the version index of a symbol.
-    pub(crate) fn place(&self, symbol: u64) -> u64 {
+    pub(crate) fn place(&self, symbol: u64) -> u64
+        ensures { self.now.at + 2 * symbol < 2 ^ 64 → result ≡ self.now.at + 2 * symbol }
+    {
         self.at
             .saturating_add(symbol.saturating_mul(INDEX_BYTES as u64))
     }

@@ -1,10 +1,22 @@
 //! The symbols of a shared library.
-ghost use Rattle.std.specs.Prelude.{◌≡◌, List, ℕ, Option};
+ghost use Rattle.std.specs.Prelude.{◌≡◌, ◌<◌, ◌||◌, not, if◌then◌else◌, List, [], ◌∷◌, ℕ, None, Some, Ok, Option, Result, OnOk};
+ghost use Rattle.elf_model.specs.LinkKeys.{LinkSymbol};
+ghost use Rattle.elf_model.specs.Loader.{is_hidden};
+ghost use Rattle.elf_model.specs.Numbers.{SHT_DYNSYM};
+ghost use Rattle.elf_model.specs.HeaderTables.{file_sections, first_typed};
+ghost use Rattle.elf_model.specs.Tables.{SYMBOL_SIZE, entry_at};
+ghost use Rattle.elf_model.specs.declared.link_states.LinkRefusal.{LinkRefusal as Refusal};
 ghost use Rattle.elf_record.specs.Sym.{IsSym};
+ghost use Rattle.elf_resolve.specs.LibraryKeys.{LibraryVersions, has_no_version, is_reference, key_names, library_symbol_at, library_symbols};
 ghost use Rattle.elf_resolve.specs.LibraryNeeds.{key_of_default};
 ghost use Rattle.elf_resolve.specs.LibrarySymbols.{library_role, shared_kind};
+ghost use Rattle.elf_resolve.specs.LibraryTables.{FindsKeyNames, FindsLibrarySymbol, HoldsIndexes, HoldsLibrary, HoldsLibrarySymbol, HoldsLibraryVersions, TakesSymbols};
 ghost use Rattle.elf_resolve.specs.ObjectSymbols.{HoldsSome};
+ghost use Rattle.elf_resolve.specs.ObjectTables.{HoldsSymbols};
+ghost use Rattle.elf_resolve.specs.StringBuffers.{HoldsText, KeptTexts};
+ghost use Rattle.elf_resolve.specs.Symbols.{TookSymbol};
 ghost use Rattle.elf_resolve.specs.VersionTexts.{version_text};
+ghost use Rattle.elf_resolve.specs.declared.object.SymbolRows.{SymbolRows as Rows};
 ghost use Rattle.elf_table.specs.Load.{HoldsSectionHeaders};
 
 use crate::key_marks::KeyMarks;
@@ -46,7 +58,15 @@ pub(crate) fn library_symbol(
     versions: &VersionNames,
     strings: &mut StringBuffer,
     index: u64,
-) -> Result<Option<LibrarySymbol>, LinkFault> {
+) -> Result<Option<LibrarySymbol>, LinkFault>
+    ensures stays { KeptTexts strings.old strings.new }
+    ensures finds { (file : List ℕ) (table_at : ℕ) (symbols : Rows) (known : LibraryVersions) →
+        tables.symbols ≡ Some symbols → HoldsSymbols file strings.old.bytes table_at symbols →
+        HoldsLibraryVersions file strings.old.bytes tables.versions versions.now known →
+        HoldsSectionHeaders file view.now.loaded view.now.store.now → index < symbols.count →
+        FindsLibrarySymbol (library_symbol_at file known table_at index) strings.new.bytes
+        (entry_at file table_at SYMBOL_SIZE index) result }
+{
     let Some(symbols) = tables.symbols else {
         return Ok(None);
     };
@@ -62,10 +82,7 @@ pub(crate) fn library_symbol(
         return Ok(None);
     }
     let role = role_of(view, &symbol);
-    let (name, default) = match tables.versions {
-        Some(rows) => versioned_names(rows, versions, strings, &symbol, (index, name))?,
-        None => (name, None),
-    };
+    let (name, default) = key_names(tables.versions, versions, strings, &symbol, (index, name))?;
     Ok(Some(LibrarySymbol {
         name,
         default,
@@ -123,30 +140,84 @@ fn kind_of(view: &SectionView<'_>, symbol: &Sym) -> SharedKind
 /// # Errors
 /// `VersionCut` at the header of the version indexes if there is none for the symbol, `VersionIndex`
 /// at one without a name; there is no room for the name.
-fn versioned_names(
-    rows: VersionRows,
+fn key_names(
+    indexes: Option<VersionRows>,
     versions: &VersionNames,
     strings: &mut StringBuffer,
     symbol: &Sym,
     named: (u64, HeldText),
-) -> Result<(HeldText, Option<HeldText>), LinkFault> {
+) -> Result<(HeldText, Option<HeldText>), LinkFault>
+    ensures stays { KeptTexts strings.old strings.new }
+    ensures finds { (file : List ℕ) (at : ℕ) (known : LibraryVersions) (name : List ℕ) →
+        HoldsLibraryVersions file strings.old.bytes indexes versions.now known →
+        IsSym file at symbol.now → HoldsText strings.old.bytes named.1 name →
+        FindsKeyNames (key_names file known known.indexes at named.0 name) strings.new.bytes
+        result }
+{
+    match indexes {
+        Some(indexes) => versioned_names(indexes, versions, strings, symbol, named),
+        None => Ok((named.1, None)),
+    }
+}
+
+/// Returns the names of the keys of a symbol in a library that has version indexes.
+///
+/// # Errors
+/// Those of [`key_names`].
+fn versioned_names(
+    indexes: VersionRows,
+    versions: &VersionNames,
+    strings: &mut StringBuffer,
+    symbol: &Sym,
+    named: (u64, HeldText),
+) -> Result<(HeldText, Option<HeldText>), LinkFault>
+    ensures stays { KeptTexts strings.old strings.new }
+    ensures finds { (file : List ℕ) (header at : ℕ) (known : LibraryVersions) (name : List ℕ) →
+        HoldsIndexes file strings.old.bytes header indexes →
+        HoldsLibraryVersions file strings.old.bytes (Some indexes) versions.now known →
+        IsSym file at symbol.now → HoldsText strings.old.bytes named.1 name →
+        FindsKeyNames (key_names file known (Some header) at named.0 name) strings.new.bytes
+        result }
+{
     let (index, name) = named;
-    let word = rows.index(strings, index)?;
-    let (number, is_hidden) = (word % HIDDEN, word >= HIDDEN);
-    let is_absolute = symbol.st_shndx == SHN_ABS && !is_function(symbol);
-    if !is_hidden && (number < 2 || is_absolute) {
+    let word = indexes.index(strings, index)?;
+    if has_no_version(symbol, word) {
         return Ok((name, None));
     }
     let is_reference = symbol.st_shndx == SHN_UNDEF;
-    let version = match version_of(versions, number, is_reference) {
-        Some(version) => version,
-        None => return file_refused(rows.place(index), Cause::VersionIndex),
+    let Some(version) = version_of(versions, word % HIDDEN, is_reference) else {
+        return file_refused(indexes.place(index), Cause::VersionIndex);
     };
-    let joined = strings.join(name, version, rows.place(index))?;
-    if is_reference || is_hidden {
-        return Ok((joined, None));
+    let joined = strings.join(name, version, indexes.place(index))?;
+    Ok((joined, default_name(symbol, word, name)))
+}
+
+/// Returns `true` if a symbol has no version: it is not hidden, and its index is that of no version
+/// or it is absolute, though no function.
+fn has_no_version(symbol: &Sym, word: u16) -> bool
+    ensures { (file : List ℕ) (at : ℕ) → IsSym file at symbol.now →
+        result ≡ has_no_version file at word }
+{
+    let is_absolute = symbol.st_shndx == SHN_ABS && !is_function(symbol);
+    !is_hidden(word) && (word % HIDDEN < 2 || is_absolute)
+}
+
+/// Returns the name of a symbol without its version, if it defines the default one.
+fn default_name(symbol: &Sym, word: u16, name: HeldText) -> Option<HeldText>
+    ensures { (file : List ℕ) (at : ℕ) → IsSym file at symbol.now →
+        result ≡ (if not (is_reference file at || is_hidden word) then Some name else None) }
+{
+    if symbol.st_shndx == SHN_UNDEF || is_hidden(word) {
+        return None;
     }
-    Ok((joined, Some(name)))
+    Some(name)
+}
+
+/// Returns `true` if a version index hides its symbol from references without a version.
+fn is_hidden(word: u16) -> bool
+    ensures { result ≡ is_hidden word }
+{
+    word >= HIDDEN
 }
 
 /// Returns the name of the version of an index: among those that are needed for a reference, among
@@ -174,16 +245,42 @@ pub(crate) fn take_library_symbols(
     strings: &mut StringBuffer,
     keys: &mut KeyTable<'_>,
     marks: &mut KeyMarks,
-) -> Result<(), LinkFault> {
+) -> Result<(), LinkFault>
+    ensures { (file : List ℕ) (known : LibraryVersions) →
+        HoldsLibrary file strings.old.bytes tables versions.now known →
+        HoldsSectionHeaders file view.now.loaded view.now.store.now →
+        TakesSymbols (library_symbols file known (first_typed (file_sections file) SHT_DYNSYM))
+        keys.old keys.new tables.row result }
+{
     let used = strings.used();
     let (first, count) = tables.symbol_range();
     for index in first..count {
-        if let Some(symbol) = library_symbol(view, tables, versions, strings, index)? {
-            take_at(&symbol, strings, keys, marks, tables.row)?;
-        }
+        let symbol = library_symbol(view, tables, versions, strings, index)?;
+        take_found(symbol, strings, keys, marks, tables.row)?;
         strings.forget_after(used);
     }
     Ok(())
+}
+
+/// Takes a symbol of a shared library with a row, if there is one.
+///
+/// # Errors
+/// There is no room for its keys, at the symbol.
+fn take_found(
+    symbol: Option<LibrarySymbol>,
+    strings: &StringBuffer,
+    keys: &mut KeyTable<'_>,
+    marks: &mut KeyMarks,
+    row: u32,
+) -> Result<(), LinkFault>
+    ensures { (known : Result (List LinkSymbol) Refusal) (at : ℕ) →
+        FindsLibrarySymbol known strings.now.bytes at (Ok symbol) →
+        TakesSymbols known keys.old keys.new row result }
+{
+    match symbol {
+        Some(symbol) => take_at(&symbol, strings, keys, marks, row),
+        None => Ok(()),
+    }
 }
 
 /// Takes a symbol of a shared library with a row.
@@ -196,7 +293,10 @@ fn take_at(
     keys: &mut KeyTable<'_>,
     marks: &mut KeyMarks,
     row: u32,
-) -> Result<(), LinkFault> {
+) -> Result<(), LinkFault>
+    ensures { (is : LinkSymbol) → HoldsLibrarySymbol strings.now.bytes symbol.now is →
+        TakesSymbols (Ok (is ∷ [])) keys.old keys.new row result }
+{
     match take_symbol(symbol, strings, keys, marks, row) {
         Ok(()) => Ok(()),
         Err(fault) => Err(full(symbol.at, fault)),
@@ -213,7 +313,10 @@ fn take_symbol(
     keys: &mut KeyTable<'_>,
     marks: &mut KeyMarks,
     row: u32,
-) -> Result<(), KeyFault> {
+) -> Result<(), KeyFault>
+    ensures { (is : LinkSymbol) → HoldsLibrarySymbol strings.now.bytes symbol.now is →
+        OnOk result (TookSymbol keys.old keys.new is (Some row)) }
+{
     let used = SymbolUse {
         role: symbol.role,
         restricted: false,

@@ -1,10 +1,19 @@
 //! The names of the versions of a shared library, by their indexes.
-ghost use Rattle.std.specs.Prelude.{◌≡◌, ◌<◌, ◌≤◌, IfOk, length};
+ghost use Rattle.std.specs.Prelude.{◌≡◌, ◌<◌, ◌≤◌, ◌++◌, ◌==◌, bit_and, if◌then◌else◌, IfOk, List, [], ◌∷◌, ℕ, None};
+ghost use Rattle.elf_model.specs.Records.{sh_offset};
+ghost use Rattle.elf_model.specs.declared.versions.VersionKind.TheVariants.{Definition, File, Need};
+ghost use Rattle.elf_resolve.specs.LibraryVersions.{NumberedName, version_names};
+ghost use Rattle.elf_resolve.specs.StringBuffers.{HoldsText};
 ghost use Rattle.elf_resolve.specs.VersionTexts.{text_of_number};
+ghost use Rattle.elf_resolve.specs.VersionWalks.{FindsNumber, HasRoomForNames, HoldsNames, HoldsNoNames, HoldsVersions, IsPlace, ReadsNames, ReadsRecord, ReadsVersions, after_file, state_at};
 
 use crate::link_faults::{LinkFault, file_refused};
-use crate::string_buffer::{HeldText, StringBuffer, part_of};
-use elf_record::{Cause, u16_at, word};
+use crate::string_buffer::{HeldText, StringBuffer};
+use crate::version_records::{
+    RecordPlace, VersionSection, bytes_at, first_record, half, long, next_place, past_all,
+    place_after, record_at,
+};
+use elf_record::Cause;
 use std::alloc::{AllocError, Global};
 
 /// One more than the largest index of a version.
@@ -33,34 +42,14 @@ pub(crate) struct VersionNames {
     needed: Vec<Option<HeldText>>,
 }
 
-/// A section of version records in a buffer: its bytes, the strings of its names, and its file
-/// offset and that of its header.
-#[derive(Clone, Copy)]
-pub(crate) struct VersionSection {
-    /// The records.
-    pub records: HeldText,
-    /// The strings.
-    pub strings: HeldText,
-    /// The file offset of the records.
-    pub at: u64,
-    /// The file offset of the section's header.
-    pub header: u64,
-}
-
-/// A record: the index of its first byte, its file offset, and that of the record that led to it.
-#[derive(Clone, Copy)]
-struct RecordPlace {
-    start: usize,
-    at: u64,
-    led_by: u64,
-}
-
 impl VersionNames {
     /// Creates names of no version.
     ///
     /// # Errors
     /// Out of memory.
-    pub(crate) fn new(alloc: Global) -> Result<VersionNames, AllocError> {
+    pub(crate) fn new(alloc: Global) -> Result<VersionNames, AllocError>
+        ensures { IfOk result (λ made. HoldsNoNames made) }
+    {
         Ok(VersionNames {
             defined: vec![in alloc; None; MOST_VERSIONS]?,
             needed: vec![in alloc; None; MOST_VERSIONS]?,
@@ -68,7 +57,9 @@ impl VersionNames {
     }
 
     /// Forgets all names.
-    pub(crate) fn clear(&mut self) {
+    pub(crate) fn clear(&mut self)
+        ensures { HasRoomForNames self.old → HoldsNoNames self.new }
+    {
         forget(&mut self.defined);
         forget(&mut self.needed);
     }
@@ -96,7 +87,14 @@ impl VersionNames {
         &mut self,
         strings: &StringBuffer,
         table: VersionSection,
-    ) -> Result<(), LinkFault> {
+    ) -> Result<(), LinkFault>
+        ensures needed { self.new.needed ≡ self.old.needed }
+        ensures reads { (file : List ℕ) (at : ℕ) →
+            HoldsVersions file strings.now.bytes at table →
+            HoldsNames strings.now.bytes self.old.defined.items [] →
+            ReadsNames (version_names Definition file at) strings.now.bytes
+            self.new.defined.items result }
+    {
         let mut next = first_record(table);
         for _ in 0..table.records.size / DEFINITION_BYTES {
             let Some(place) = next else {
@@ -116,15 +114,21 @@ impl VersionNames {
         strings: &StringBuffer,
         table: VersionSection,
         place: RecordPlace,
-    ) -> Result<Option<RecordPlace>, LinkFault> {
+    ) -> Result<Option<RecordPlace>, LinkFault>
+        ensures needed { self.new.needed ≡ self.old.needed }
+        ensures reads { (file : List ℕ) (at start from : ℕ) (names : List NumberedName) →
+            HoldsVersions file strings.now.bytes at table →
+            IsPlace (sh_offset file at) start from place →
+            HoldsNames strings.now.bytes self.old.defined.items names →
+            ReadsRecord file strings.now.bytes at (state_at Definition 0 start from) names
+            self.new.defined.items None result }
+    {
         let record = record_at(strings, table, place, DEFINITION_BYTES)?;
         let number = number_of(half(record, 4), place.at)?;
         let name = place_after(place, long(record, 12));
         let bytes = bytes_at(strings, table, name, AUXILIARY_BYTES)?;
         let text = strings.name(table.strings, u64::from(long(bytes, 0)), name.at)?;
-        if half(record, 2) & VER_FLG_BASE == 0 {
-            set_name(&mut self.defined, number, text);
-        }
+        set_defined(&mut self.defined, half(record, 2), number, text);
         Ok(next_place(place, long(record, 16)))
     }
 
@@ -136,7 +140,14 @@ impl VersionNames {
         &mut self,
         strings: &StringBuffer,
         table: VersionSection,
-    ) -> Result<(), LinkFault> {
+    ) -> Result<(), LinkFault>
+        ensures defined { self.new.defined ≡ self.old.defined }
+        ensures reads { (file : List ℕ) (at : ℕ) →
+            HoldsVersions file strings.now.bytes at table →
+            HoldsNames strings.now.bytes self.old.needed.items [] →
+            ReadsNames (version_names File file at) strings.now.bytes self.new.needed.items
+            result }
+    {
         let most = table.records.size / NEED_BYTES;
         let mut left = most;
         let mut next = first_record(table);
@@ -155,8 +166,7 @@ impl VersionNames {
         past_all(next)
     }
 
-    /// Reads the versions of a need, of which no more are read than `left`, and returns how many are
-    /// left.
+    /// Reads the versions of a need, at most `left` of them, and returns how many are left.
     ///
     /// # Errors
     /// Those of [`VersionNames::read_definitions`].
@@ -166,99 +176,51 @@ impl VersionNames {
         table: VersionSection,
         first: RecordPlace,
         left: usize,
-    ) -> Result<usize, LinkFault> {
+    ) -> Result<usize, LinkFault>
+        ensures defined { self.new.defined ≡ self.old.defined }
+        ensures fewer { IfOk result (λ rest. rest ≤ left) }
+        ensures reads { (file : List ℕ) (at owner start from : ℕ) (names : List NumberedName) →
+            HoldsVersions file strings.now.bytes at table →
+            IsPlace (sh_offset file at) start from first →
+            HoldsNames strings.now.bytes self.old.needed.items names →
+            ReadsVersions file strings.now.bytes at owner start from left names
+            self.new.needed.items result }
+    {
         let mut next = Some(first);
         for count in 0..left {
             let Some(place) = next else {
                 return Ok(left.saturating_sub(count));
             };
-            let record = bytes_at(strings, table, place, NEED_BYTES)?;
-            let number = number_of(half(record, 6), place.at)?;
-            let text = strings.name(table.strings, u64::from(long(record, 8)), place.at)?;
-            set_name(&mut self.needed, number, text);
-            next = next_place(place, long(record, 12));
+            next = self.read_version(strings, table, place)?;
         }
         past_all(next)?;
         Ok(0)
     }
-}
 
-/// Returns the first record of a section, if it has bytes.
-fn first_record(table: VersionSection) -> Option<RecordPlace> {
-    if table.records.size == 0 {
-        return None;
+    /// Reads a version of a need, and returns the place of the next.
+    ///
+    /// # Errors
+    /// Those of [`VersionNames::read_definitions`].
+    fn read_version(
+        &mut self,
+        strings: &StringBuffer,
+        table: VersionSection,
+        place: RecordPlace,
+    ) -> Result<Option<RecordPlace>, LinkFault>
+        ensures defined { self.new.defined ≡ self.old.defined }
+        ensures reads { (file : List ℕ) (at owner start from : ℕ) (names : List NumberedName) →
+            HoldsVersions file strings.now.bytes at table →
+            IsPlace (sh_offset file at) start from place →
+            HoldsNames strings.now.bytes self.old.needed.items names →
+            ReadsRecord file strings.now.bytes at (state_at Need owner start from) names
+            self.new.needed.items (after_file file at owner) result }
+    {
+        let record = bytes_at(strings, table, place, NEED_BYTES)?;
+        let number = number_of(half(record, 6), place.at)?;
+        let text = strings.name(table.strings, u64::from(long(record, 8)), place.at)?;
+        set_name(&mut self.needed, number, text);
+        Ok(next_place(place, long(record, 12)))
     }
-    Some(RecordPlace {
-        start: 0,
-        at: table.at,
-        led_by: table.header,
-    })
-}
-
-/// Returns the place of the record that follows by an offset, if it is not 0.
-fn next_place(place: RecordPlace, offset: u32) -> Option<RecordPlace> {
-    if offset == 0 {
-        return None;
-    }
-    Some(place_after(place, offset))
-}
-
-/// Returns the place of a record that is led to by an offset from another.
-fn place_after(place: RecordPlace, offset: u32) -> RecordPlace {
-    RecordPlace {
-        start: place.start.saturating_add(offset as usize),
-        at: place.at.saturating_add(u64::from(offset)),
-        led_by: place.at,
-    }
-}
-
-/// Refuses one more record than a section has room for.
-///
-/// # Errors
-/// `VersionCut` at what leads to it.
-fn past_all(next: Option<RecordPlace>) -> Result<(), LinkFault> {
-    match next {
-        Some(place) => file_refused(place.led_by, Cause::VersionCut),
-        None => Ok(()),
-    }
-}
-
-/// Returns the `size` bytes of a record.
-///
-/// # Errors
-/// `VersionCut` at what leads to it if it is not in the section.
-fn bytes_at(
-    strings: &StringBuffer,
-    table: VersionSection,
-    place: RecordPlace,
-    size: usize,
-) -> Result<&[u8], LinkFault>
-    ensures { IfOk result (λ bytes. size ≤ length bytes.now) }
-{
-    let bytes = part_of(strings.bytes(table.records), place.start, size);
-    if bytes.len() < size {
-        return file_refused(place.led_by, Cause::VersionCut);
-    }
-    Ok(bytes)
-}
-
-/// Returns the `size` bytes of a definition or a need.
-///
-/// # Errors
-/// Those of [`bytes_at`]; `BadVersion` at it if it is of another form.
-fn record_at(
-    strings: &StringBuffer,
-    table: VersionSection,
-    place: RecordPlace,
-    size: usize,
-) -> Result<&[u8], LinkFault>
-    ensures { IfOk result (λ bytes. size ≤ length bytes.now) }
-{
-    let record = bytes_at(strings, table, place, size)?;
-    if half(record, 0) != 1 {
-        return file_refused(place.at, Cause::BadVersion);
-    }
-    Ok(record)
 }
 
 /// Returns a version index without the bit that hides a symbol.
@@ -266,7 +228,7 @@ fn record_at(
 /// # Errors
 /// `VersionIndex` at a file offset if it is too large.
 fn number_of(number: u16, at: u64) -> Result<u16, LinkFault>
-    ensures { IfOk result (λ index. index < MOST_VERSIONS) }
+    ensures { FindsNumber number at result }
 {
     let number = number % HIDDEN;
     if number as usize >= MOST_VERSIONS {
@@ -275,25 +237,11 @@ fn number_of(number: u16, at: u64) -> Result<u16, LinkFault>
     Ok(number)
 }
 
-/// Returns the number of two bytes at a place, or 0 past the end.
-fn half(bytes: &[u8], place: usize) -> u16 {
-    let part = part_of(bytes, place, 2);
-    if part.len() == 2 { u16_at(part, 0) } else { 0 }
-}
-
-/// Returns the number of four bytes at a place, or 0 past the end.
-fn long(bytes: &[u8], place: usize) -> u32 {
-    match part_of(bytes, place, 4).first_chunk() {
-        Some(bytes) => word(bytes),
-        None => 0,
-    }
-}
-
 /// Forgets all names.
-fn forget(names: &mut [Option<HeldText>]) {
-    for name in names.iter_mut() {
-        *name = None;
-    }
+fn forget(names: &mut [Option<HeldText>])
+    ensures { (number : ℕ) → text_of_number names.new number ≡ None }
+{
+    names.fill(None);
 }
 
 /// Returns the name of a version index.
@@ -306,11 +254,27 @@ fn name_in(names: &[Option<HeldText>], number: u16) -> Option<HeldText>
     }
 }
 
+/// Sets the name of the version index of a definition, unless its flags say that it is the name of
+/// the library.
+fn set_defined(names: &mut [Option<HeldText>], flags: u16, number: u16, name: HeldText)
+    ensures { (bytes : List ℕ) (known : List NumberedName) (is : List ℕ) →
+        number < MOST_VERSIONS → HoldsNames bytes names.old known → HoldsText bytes name is →
+        HoldsNames bytes names.new (known ++
+        (if bit_and flags 1 == 0 then record { number = number; name = is } ∷ [] else [])) }
+{
+    if flags & VER_FLG_BASE == 0 {
+        set_name(names, number, name);
+    }
+}
+
 /// Sets the name of a version index, unless it has one.
-fn set_name(names: &mut [Option<HeldText>], number: u16, name: HeldText) {
-    if let Some(place) = names.get_mut(number as usize) {
-        if place.is_none() {
-            *place = Some(name);
-        }
+fn set_name(names: &mut [Option<HeldText>], number: u16, name: HeldText)
+    ensures { (bytes : List ℕ) (known : List NumberedName) (is : List ℕ) →
+        number < MOST_VERSIONS → HoldsNames bytes names.old known → HoldsText bytes name is →
+        HoldsNames bytes names.new (known ++ record { number = number; name = is } ∷ []) }
+{
+    let place = number as usize;
+    if place < names.len() && names[place].is_none() {
+        names[place] = Some(name);
     }
 }
