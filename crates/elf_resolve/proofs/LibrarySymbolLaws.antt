@@ -17,7 +17,7 @@ use Rattle.elf_model.specs.declared.link_states.LinkCause.TheVariants as cause
 use Rattle.elf_model.specs.declared.link_states.LinkRefusal.{LinkRefusal}
 use Rattle.elf_model.specs.declared.link_states.SymbolRole.{SymbolRole}
 use Rattle.elf_model.proofs.Slices.{field-slice}
-use Rattle.elf_resolve.specs.LibraryKeys.{KeyNames, LibraryVersions, has_no_version, is_reference, key_names, library_symbol_at, name_alone, names_by_word, names_with, symbol_called, symbol_counted, symbol_named, version_name, version_word}
+use Rattle.elf_resolve.specs.LibraryKeys.{KeyNames, LibraryVersions, has_no_version, is_undefined_at, key_names, library_symbol_at, name_alone, names_by_word, names_with, library_symbol_called, symbol_counted, library_symbol_named, version_name, version_index_at}
 use Rattle.elf_resolve.specs.LibrarySymbols.{library_role, library_use}
 use Rattle.elf_resolve.specs.LibraryVersions.{name_of_number}
 use Rattle.elf_resolve.specs.LibraryTables.{FindsKeyNames, FindsLibrarySymbol, HoldsIndexes, HoldsKeyNames, HoldsLibraryVersions}
@@ -36,13 +36,13 @@ use Rattle.elf_resolve.proofs.VersionPlaceLaws.{lt_true, part_field}
 -- THE VERSION INDEX of a symbol is in the section
 pub word_found : (file bytes rows part : List ℕ) (at symbol start word : ℕ) (indexes : VersionRows) → HoldsIndexes file bytes at indexes → rows ≡ section_bytes file at → length rows < 2 ^ 64
     → start ≡ min (symbol * 2) (2 ^ 64 - 1) → (start + 2 ≤ length rows → part ≡ slice rows start 2) → (length rows < start + 2 → part ≡ []) → 2 ≤ length part → word ≡ field part 0 2
-    → version_word file at symbol ≡ Ok word
+    → version_index_at file at symbol ≡ Ok word
 word_found file bytes rows part at symbol start word indexes held is fits from here none some word_is = by_place (cases_lt (length rows) (start + 2))
   where
     within_size : (start size symbol : ℕ) → start ≡ symbol * 2 → start + 2 ≤ size → symbol < size / 2
     within_size start size symbol same within = omega arith
 
-    by_place : (length rows < start + 2) ⊎ (start + 2 ≤ length rows) → version_word file at symbol ≡ Ok word
+    by_place : (length rows < start + 2) ⊎ (start + 2 ≤ length rows) → version_index_at file at symbol ≡ Ok word
     by_place (inl past) = absurd (omega (arith, ap length (none past)))
     by_place (inr within) =
         let same : start ≡ symbol * 2 = omega arith in
@@ -58,15 +58,15 @@ pub word_plain : (file : List ℕ) (versions : LibraryVersions) (at word_at word
     → names_by_word file versions at word_at name known ≡ Ok (name_alone name)
 word_plain file versions at word_at word name known is plain =
     ap (names_by_word file versions at word_at name) is
-    ∙ ap (λ b. if b then Ok (name_alone name) else names_with (not (is_reference file at || is_hidden word)) name word_at (version_name versions (number_in word) (is_reference file at))) plain
+    ∙ ap (λ b. if b then Ok (name_alone name) else names_with (not (is_undefined_at file at || is_hidden word)) name word_at (version_name versions (number_in word) (is_undefined_at file at))) plain
 
 pub word_versioned : (file : List ℕ) (versions : LibraryVersions) (at word_at word : ℕ) (name : List ℕ) (known : Result ℕ LinkRefusal) (version : Option (List ℕ)) → known ≡ Ok word → has_no_version file at word ≡ false
-    → version_name versions (number_in word) (is_reference file at) ≡ version
-    → names_by_word file versions at word_at name known ≡ names_with (not (is_reference file at || is_hidden word)) name word_at version
+    → version_name versions (number_in word) (is_undefined_at file at) ≡ version
+    → names_by_word file versions at word_at name known ≡ names_with (not (is_undefined_at file at || is_hidden word)) name word_at version
 word_versioned file versions at word_at word name known version is plain version_is =
     ap (names_by_word file versions at word_at name) is
-    ∙ ap (λ b. if b then Ok (name_alone name) else names_with (not (is_reference file at || is_hidden word)) name word_at (version_name versions (number_in word) (is_reference file at))) plain
-    ∙ ap (names_with (not (is_reference file at || is_hidden word)) name word_at) version_is
+    ∙ ap (λ b. if b then Ok (name_alone name) else names_with (not (is_undefined_at file at || is_hidden word)) name word_at (version_name versions (number_in word) (is_undefined_at file at))) plain
+    ∙ ap (names_with (not (is_undefined_at file at || is_hidden word)) name word_at) version_is
 
 -- the name of a version in a buffer
 pub version_held : (file bytes : List ℕ) (indexes : Option VersionRows) (texts : VersionNames) (versions : LibraryVersions) (number : ℕ) (reference : Bool) → HoldsLibraryVersions file bytes indexes texts versions
@@ -99,14 +99,14 @@ pub library_not_global : (file : List ℕ) (versions : LibraryVersions) (table_a
 unfolding library_symbol_at
 library_not_global file versions table_at symbol other =
     let at = entry_at file table_at SYMBOL_SIZE symbol in
-    ap (λ b. if b then symbol_called file versions at symbol (link_name (strings_of file table_at) (st_name file at) at) else Ok []) other
+    ap (λ b. if b then library_symbol_called file versions at symbol (link_name (strings_of file table_at) (st_name file at) at) else Ok []) other
 
 library_global : (file : List ℕ) (versions : LibraryVersions) (table_at symbol : ℕ) → let at = entry_at file table_at SYMBOL_SIZE symbol in
-    is_global file at ≡ true → library_symbol_at file versions table_at symbol ≡ symbol_called file versions at symbol (link_name (strings_of file table_at) (st_name file at) at)
+    is_global file at ≡ true → library_symbol_at file versions table_at symbol ≡ library_symbol_called file versions at symbol (link_name (strings_of file table_at) (st_name file at) at)
 unfolding library_symbol_at
 library_global file versions table_at symbol one =
     let at = entry_at file table_at SYMBOL_SIZE symbol in
-    ap (λ b. if b then symbol_called file versions at symbol (link_name (strings_of file table_at) (st_name file at) at) else Ok []) one
+    ap (λ b. if b then library_symbol_called file versions at symbol (link_name (strings_of file table_at) (st_name file at) at) else Ok []) one
 
 -- a global symbol at an offset, whose name's index is known
 pub record IsLibrarySymbol (file : List ℕ) (table_at symbol index at : ℕ) : Type 0 where
@@ -115,17 +115,17 @@ pub record IsLibrarySymbol (file : List ℕ) (table_at symbol index at : ℕ) : 
   pub at_is : at ≡ entry_at file table_at SYMBOL_SIZE symbol
 
 library_called : (file : List ℕ) (versions : LibraryVersions) (table_at symbol index at : ℕ) → IsLibrarySymbol file table_at symbol index at
-    → library_symbol_at file versions table_at symbol ≡ symbol_called file versions (entry_at file table_at SYMBOL_SIZE symbol) symbol (link_name (strings_of file table_at) index at)
+    → library_symbol_at file versions table_at symbol ≡ library_symbol_called file versions (entry_at file table_at SYMBOL_SIZE symbol) symbol (link_name (strings_of file table_at) index at)
 library_called file versions table_at symbol index at is =
     let here = entry_at file table_at SYMBOL_SIZE symbol in
     library_global file versions table_at symbol is.one
-    ∙ ap (λ i. symbol_called file versions here symbol (link_name (strings_of file table_at) i here)) (sym is.index_is)
-    ∙ ap (λ a. symbol_called file versions here symbol (link_name (strings_of file table_at) index a)) (sym is.at_is)
+    ∙ ap (λ i. library_symbol_called file versions here symbol (link_name (strings_of file table_at) i here)) (sym is.index_is)
+    ∙ ap (λ a. library_symbol_called file versions here symbol (link_name (strings_of file table_at) index a)) (sym is.at_is)
 
 pub library_unnamed : (file bytes : List ℕ) (versions : LibraryVersions) (table_at symbol index at : ℕ) (fault : LinkFault) → IsLibrarySymbol file table_at symbol index at
     → FindsText bytes (strings_of file table_at) index at (Err fault) → IsLinkFault (refusal_of (library_symbol_at file versions table_at symbol)) fault
 library_unnamed file bytes versions table_at symbol index at (fault.Refused refusal) is found =
-    inr (ap refusal_of (library_called file versions table_at symbol index at is ∙ ap (symbol_called file versions (entry_at file table_at SYMBOL_SIZE symbol) symbol) found))
+    inr (ap refusal_of (library_called file versions table_at symbol index at is ∙ ap (library_symbol_called file versions (entry_at file table_at SYMBOL_SIZE symbol) symbol) found))
 library_unnamed file bytes versions table_at symbol index at fault.Read is found = absurd found
 library_unnamed file bytes versions table_at symbol index at fault.Open is found = absurd found
 library_unnamed file bytes versions table_at symbol index at fault.Memory is found = absurd found
@@ -138,7 +138,7 @@ library_marked file text name versions table_at symbol index at why is called sa
     let here = entry_at file table_at SYMBOL_SIZE symbol in
     let marked : bytes_eq name LTO_MARK ≡ true = ap (λ t. bytes_eq t LTO_MARK) (sym same) ∙ mark in
     let known : library_symbol_at file versions table_at symbol ≡ refused_at here Lto =
-    library_called file versions table_at symbol index at is ∙ ap (symbol_called file versions here symbol) called ∙ ap (λ b. if b then refused_at here Lto else symbol_counted file versions here symbol name) marked in
+    library_called file versions table_at symbol index at is ∙ ap (library_symbol_called file versions here symbol) called ∙ ap (λ b. if b then refused_at here Lto else symbol_counted file versions here symbol name) marked in
     rw (why_is, known, is.at_is) (inr refl)
 
 library_counted : (file text name : List ℕ) (versions : LibraryVersions) (table_at symbol index at : ℕ) → IsLibrarySymbol file table_at symbol index at
@@ -147,7 +147,7 @@ library_counted : (file text name : List ℕ) (versions : LibraryVersions) (tabl
 library_counted file text name versions table_at symbol index at is called same other =
     let here = entry_at file table_at SYMBOL_SIZE symbol in
     let plain : bytes_eq name LTO_MARK ≡ false = ap (λ t. bytes_eq t LTO_MARK) (sym same) ∙ other in
-    library_called file versions table_at symbol index at is ∙ ap (symbol_called file versions here symbol) called ∙ ap (λ b. if b then refused_at here Lto else symbol_counted file versions here symbol name) plain
+    library_called file versions table_at symbol index at is ∙ ap (library_symbol_called file versions here symbol) called ∙ ap (λ b. if b then refused_at here Lto else symbol_counted file versions here symbol name) plain
 
 pub library_nameless : (file bytes text name : List ℕ) (held : HeldText) (versions : LibraryVersions) (table_at symbol index at : ℕ) → IsLibrarySymbol file table_at symbol index at
     → link_name (strings_of file table_at) index at ≡ Ok name → text ≡ name → bytes_eq text LTO_MARK ≡ false → HoldsText bytes held name → held.size ≡ 0
@@ -159,13 +159,13 @@ library_nameless file bytes text name held versions table_at symbol index at is 
 library_named : (file bytes text name : List ℕ) (held : HeldText) (versions : LibraryVersions) (table_at symbol index at : ℕ) → IsLibrarySymbol file table_at symbol index at
     → link_name (strings_of file table_at) index at ≡ Ok name → text ≡ name → bytes_eq text LTO_MARK ≡ false → HoldsText bytes held name → (held.size ≡ 0 → ⊥)
     → let here = entry_at file table_at SYMBOL_SIZE symbol in
-    library_symbol_at file versions table_at symbol ≡ symbol_named file here (key_names file versions versions.indexes here symbol name)
+    library_symbol_at file versions table_at symbol ≡ library_symbol_named file here (key_names file versions versions.indexes here symbol name)
 library_named file bytes text name held versions table_at symbol index at is called same other holds some =
     library_counted file text name versions table_at symbol index at is called same other ∙ by_name name (λ e. some (sym (held_size bytes held name holds) ∙ ap length e))
   where
     by_name : (name : List ℕ) → (name ≡ [] → ⊥)
         → let here = entry_at file table_at SYMBOL_SIZE symbol in
-        symbol_counted file versions here symbol name ≡ symbol_named file here (key_names file versions versions.indexes here symbol name)
+        symbol_counted file versions here symbol name ≡ library_symbol_named file here (key_names file versions versions.indexes here symbol name)
     by_name [] some = absurd (some refl)
     by_name (byte ∷ name) some = refl
 
@@ -178,7 +178,7 @@ library_refused file bytes text name held versions table_at symbol index at faul
     subst (λ (r : Result (List LinkSymbol) LinkRefusal). IsLinkFault (refusal_of r) fault) (sym (library_named file bytes text name held versions table_at symbol index at is called same other holds some))
     (by_names (key_names file versions versions.indexes here symbol name) refused)
   where
-    by_names : (names : Result KeyNames LinkRefusal) → IsLinkFault (refusal_of names) fault → IsLinkFault (refusal_of (symbol_named file (entry_at file table_at SYMBOL_SIZE symbol) names)) fault
+    by_names : (names : Result KeyNames LinkRefusal) → IsLinkFault (refusal_of names) fault → IsLinkFault (refusal_of (library_symbol_named file (entry_at file table_at SYMBOL_SIZE symbol) names)) fault
     by_names (Err refusal) refused = refused
     by_names (Ok names) refused = refused
 
@@ -192,7 +192,7 @@ library_found file old new text name held first default role versions table_at s
     let here = entry_at file table_at SYMBOL_SIZE symbol in
     let names = found.0 in (
       record { name = names.name; default_name = names.default_name; symbol = library_use (library_role file here) },
-      library_named file old text name held versions table_at symbol index at is called same other holds some ∙ ap (symbol_named file here) found.1,
+      library_named file old text name held versions table_at symbol index at is called same other holds some ∙ ap (library_symbol_named file here) found.1,
       record { name = found.2.name; default_name = found.2.default_name; use_is = ap library_use (sym role_is) },
       is.at_is,
     )

@@ -11,7 +11,7 @@ use Rattle.elf_model.specs.Tables.{SYMBOL_SIZE, entry_count}
 use Rattle.elf_model.specs.declared.link_states.LinkRefusal.{LinkRefusal}
 use Rattle.elf_resolve.specs.KeyTables.{KeyList}
 use Rattle.elf_resolve.specs.LibraryKeys.{LibraryVersions, library_symbol_at, library_symbols, library_symbols_from}
-use Rattle.elf_resolve.specs.LibraryTables.{HoldsDynamicSymbols, HoldsSomeSymbols, TakesSymbols, TookLibraryRows}
+use Rattle.elf_resolve.specs.LibraryTables.{HoldsDynamicSymbols, HoldsSomeSymbols, TakesLibrarySymbols, TookLibraryRows}
 use Rattle.elf_resolve.specs.StringBuffers.{KeptTexts, TableTexts}
 use Rattle.elf_resolve.specs.Taken.{IsLinkFault}
 use Rattle.elf_resolve.specs.declared.link_faults.LinkFault.{LinkFault}
@@ -19,7 +19,7 @@ use Rattle.elf_resolve.specs.declared.object.SymbolRows.{SymbolRows}
 use Rattle.elf_resolve.proofs.FollowedLaws.{followed_all, followed_fault, followed_more, followed_none}
 
 -- NO SYMBOL is taken
-pub takes_none : (known : Result (List LinkSymbol) LinkRefusal) (keys : KeyList) (row : ℕ) → known ≡ Ok [] → TakesSymbols known keys keys row (Ok tt)
+pub takes_none : (known : Result (List LinkSymbol) LinkRefusal) (keys : KeyList) (row : ℕ) → known ≡ Ok [] → TakesLibrarySymbols known keys keys row (Ok tt)
 takes_none known keys row is = ([], is, record { keys = refl; most = refl; most_further = refl })
 
 -- what the symbols up to an index leave is forgotten
@@ -44,7 +44,7 @@ library_rows_none file versions table_at first count keys row =
     ([], followed_none (library_symbols_from file versions table_at first (count - first)), record { keys = refl; most = refl; most_further = refl })
 
 pub library_rows_more : (file : List ℕ) (versions : LibraryVersions) (table_at first index count : ℕ) (old now next : KeyList) (row : ℕ) → index < count → TookLibraryRows file versions table_at first index count old now row
-    → TakesSymbols (library_symbol_at file versions table_at index) now next row (Ok tt) → TookLibraryRows file versions table_at first (index + 1) count old next row
+    → TakesLibrarySymbols (library_symbol_at file versions table_at index) now next row (Ok tt) → TookLibraryRows file versions table_at first (index + 1) count old next row
 library_rows_more file versions table_at first index count old now next row below before more =
     let one = library_symbol_at file versions table_at index in
     let rest = library_symbols_from file versions table_at (index + 1) (count - (index + 1)) in (
@@ -76,7 +76,7 @@ library_rows_end file versions table_at index count past =
     ap (library_symbols_from file versions table_at index) none
 
 pub library_rows_all : (file : List ℕ) (versions : LibraryVersions) (table_at first index count : ℕ) (old now : KeyList) (row : ℕ) → count ≤ index → TookLibraryRows file versions table_at first index count old now row
-    → TakesSymbols (library_symbols_from file versions table_at first (count - first)) old now row (Ok tt)
+    → TakesLibrarySymbols (library_symbols_from file versions table_at first (count - first)) old now row (Ok tt)
 library_rows_all file versions table_at first index count old now row past before = (
   before.0,
   followed_all (library_symbols_from file versions table_at first (count - first)) (library_symbols_from file versions table_at index (count - index)) before.0 before.1 (library_rows_end file versions table_at index count past),
@@ -86,15 +86,15 @@ library_rows_all file versions table_at first index count old now row past befor
 -- THE SYMBOLS OF A LIBRARY are those of its table, or none
 pub library_taken : (file bytes : List ℕ) (versions : LibraryVersions) (table : Option SymbolRows) (old new : KeyList) (row : ℕ) (result : Result (Unit {0}) LinkFault) → HoldsSomeSymbols file bytes table
     → ((symbols : SymbolRows) → table ≡ Some symbols → HoldsDynamicSymbols file bytes symbols
-    → TakesSymbols (library_symbols_from file versions (section_at file symbols.section) symbols.first (symbols.count - symbols.first)) old new row result)
-    → (table ≡ None → TakesSymbols (Ok []) old new row result)
-    → TakesSymbols (library_symbols file versions (first_typed (file_sections file) SHT_DYNSYM)) old new row result
+    → TakesLibrarySymbols (library_symbols_from file versions (section_at file symbols.section) symbols.first (symbols.count - symbols.first)) old new row result)
+    → (table ≡ None → TakesLibrarySymbols (Ok []) old new row result)
+    → TakesLibrarySymbols (library_symbols file versions (first_typed (file_sections file) SHT_DYNSYM)) old new row result
 library_taken file bytes versions None old new row result held some none =
-    subst (λ (k : Result (List LinkSymbol) LinkRefusal). TakesSymbols k old new row result) (sym (ap (library_symbols file versions) held)) (none refl)
+    subst (λ (k : Result (List LinkSymbol) LinkRefusal). TakesLibrarySymbols k old new row result) (sym (ap (library_symbols file versions) held)) (none refl)
 library_taken file bytes versions (Some symbols) old new row result held some none =
     let at = section_at file symbols.section in
     let same : library_symbols_from file versions at symbols.first (symbols.count - symbols.first) ≡ library_symbols file versions (first_typed (file_sections file) SHT_DYNSYM) =
     ap (λ c. library_symbols_from file versions at symbols.first (c - symbols.first)) held.holds.count
     ∙ ap (λ f. library_symbols_from file versions at f (entry_count file at SYMBOL_SIZE - f)) held.first
     ∙ ap (library_symbols file versions) (sym held.table) in
-    subst (λ (k : Result (List LinkSymbol) LinkRefusal). TakesSymbols k old new row result) same (some symbols refl held)
+    subst (λ (k : Result (List LinkSymbol) LinkRefusal). TakesLibrarySymbols k old new row result) same (some symbols refl held)

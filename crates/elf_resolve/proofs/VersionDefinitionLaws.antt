@@ -12,7 +12,7 @@ use Rattle.elf_model.specs.declared.link_states.LinkRefusal.{LinkRefusal}
 use Rattle.elf_model.specs.declared.versions.VersionKind.TheVariants.{Definition}
 use Rattle.elf_resolve.specs.LibraryVersions.{NumberedName, numbered}
 use Rattle.elf_resolve.specs.StringBuffers.{FindsText}
-use Rattle.elf_resolve.specs.VersionWalks.{FindsBytes, FindsNumber, FindsRecord, HoldsVersions, IsNext, IsPlace, IsRefusal, names_here, next_along, place_along, state_at}
+use Rattle.elf_resolve.specs.VersionWalks.{FindsBytes, FindsNumber, FindsRecord, HoldsVersions, IsNextRecord, IsRecordPlace, IsRecordRefusal, names_here, next_along, place_along, state_at}
 use Rattle.elf_resolve.specs.declared.link_faults.LinkFault.{LinkFault}
 use Rattle.elf_resolve.specs.declared.version_records.RecordPlace.{RecordPlace}
 use Rattle.elf_resolve.specs.declared.version_records.VersionSection.{VersionSection}
@@ -38,8 +38,8 @@ definition_of file at p from form small cut within is_form is_small is_cut =
 
 -- A DEFINITION that is cut or of another form, of too large an index, whose name is cut, is refused, or is
 -- called so
-pub definition_refused : (file bytes : List ℕ) (at p from : ℕ) (table : VersionSection) (place : RecordPlace) (fault : LinkFault) → HoldsVersions file bytes at table → IsPlace (sh_offset file at) p from place
-    → FindsRecord (section_bytes file at) place 20 (Err fault) → IsRefusal (refusal_of (names_here file at (state_at Definition 0 p from))) fault
+pub definition_refused : (file bytes : List ℕ) (at p from : ℕ) (table : VersionSection) (place : RecordPlace) (fault : LinkFault) → HoldsVersions file bytes at table → IsRecordPlace (sh_offset file at) p from place
+    → FindsRecord (section_bytes file at) place 20 (Err fault) → IsRecordRefusal (refusal_of (names_here file at (state_at Definition 0 p from))) fault
 definition_refused file bytes at p from table place fault held is (inl found) =
     let here = sh_offset file at + p in
     let named = here + vd_aux file here in
@@ -62,7 +62,7 @@ pub record IsDefinition (file : List ℕ) (at p word : ℕ) (place : RecordPlace
   pub form : (vd_version file (sh_offset file at + p) == 1) ≡ true
   pub word_is : word ≡ vd_ndx file (sh_offset file at + p)
 
-pub definition_read : (file bytes record_bytes : List ℕ) (at p from word : ℕ) (table : VersionSection) (place : RecordPlace) → HoldsVersions file bytes at table → IsPlace (sh_offset file at) p from place
+pub definition_read : (file bytes record_bytes : List ℕ) (at p from word : ℕ) (table : VersionSection) (place : RecordPlace) → HoldsVersions file bytes at table → IsRecordPlace (sh_offset file at) p from place
     → (place.start + 20 ≤ length (section_bytes file at)) × (record_bytes ≡ slice (section_bytes file at) place.start 20) → field record_bytes 0 2 ≡ 1 → word ≡ field record_bytes 4 2
     → IsDefinition file at p word place
 definition_read file bytes record_bytes at p from word table place held is found form word_is =
@@ -74,7 +74,7 @@ definition_read file bytes record_bytes at p from word table place held is found
     }
 
 pub definition_large : (file : List ℕ) (at p from word : ℕ) (place : RecordPlace) (fault : LinkFault) → IsDefinition file at p word place → FindsNumber word place.at (Err fault)
-    → IsRefusal (refusal_of (names_here file at (state_at Definition 0 p from))) fault
+    → IsRecordRefusal (refusal_of (names_here file at (state_at Definition 0 p from))) fault
 definition_large file at p from word place fault is found =
     let here = sh_offset file at + p in
     let large = lt_false (number_in (vd_ndx file here)) 1024 (subst (λ w. 1024 ≤ number_in w) is.word_is found.0) in
@@ -86,13 +86,13 @@ definition_small file at p word place is small = lt_true (number_in (vd_ndx file
 
 -- the place of its name
 pub name_place : (file : List ℕ) (at p word aux : ℕ) (place name : RecordPlace) → IsDefinition file at p word place → aux ≡ vd_aux file (sh_offset file at + p) → name ≡ place_along place aux
-    → IsPlace (sh_offset file at) (p + vd_aux file (sh_offset file at + p)) (sh_offset file at + p) name
+    → IsRecordPlace (sh_offset file at) (p + vd_aux file (sh_offset file at + p)) (sh_offset file at + p) name
 name_place file at p word aux place name is far along =
     rw (along, far) (along_place file at p 20 (vd_aux file (sh_offset file at + p)) place is.inside)
 
 pub definition_cut : (file bytes : List ℕ) (at p from word : ℕ) (table : VersionSection) (place name : RecordPlace) (fault : LinkFault) → HoldsVersions file bytes at table → IsDefinition file at p word place
-    → number_in word < 1024 → IsPlace (sh_offset file at) (p + vd_aux file (sh_offset file at + p)) (sh_offset file at + p) name → FindsBytes (section_bytes file at) name 8 (Err fault)
-    → IsRefusal (refusal_of (names_here file at (state_at Definition 0 p from))) fault
+    → number_in word < 1024 → IsRecordPlace (sh_offset file at) (p + vd_aux file (sh_offset file at + p)) (sh_offset file at + p) name → FindsBytes (section_bytes file at) name 8 (Err fault)
+    → IsRecordRefusal (refusal_of (names_here file at (state_at Definition 0 p from))) fault
 definition_cut file bytes at p from word table place name fault held is small named found =
     let here = sh_offset file at + p in
     let past = place_outside file bytes at (p + vd_aux file here) here 8 table name held named found.0 in
@@ -130,10 +130,10 @@ definition_name file bytes at p index name inside is index_is =
 
 pub definition_unnamed : (file bytes name_bytes : List ℕ) (at p from word index : ℕ) (place name : RecordPlace) (fault : LinkFault) → IsDefinition file at p word place → number_in word < 1024
     → IsInside file at (p + vd_aux file (sh_offset file at + p)) 8 name → name_bytes ≡ slice (section_bytes file at) name.start 8 → index ≡ field name_bytes 0 4
-    → FindsText bytes (strings_of file at) index name.at (Err fault) → IsRefusal (refusal_of (names_here file at (state_at Definition 0 p from))) fault
+    → FindsText bytes (strings_of file at) index name.at (Err fault) → IsRecordRefusal (refusal_of (names_here file at (state_at Definition 0 p from))) fault
 definition_unnamed file bytes name_bytes at p from word index place name fault is small inside part index_is found =
     let here = sh_offset file at + p in
-    subst (λ (r : Result (List NumberedName) LinkRefusal). IsRefusal (refusal_of r) fault) (sym (definition_whole file at p from word place name is small inside))
+    subst (λ (r : Result (List NumberedName) LinkRefusal). IsRecordRefusal (refusal_of r) fault) (sym (definition_whole file at p from word place name is small inside))
     (numbered_refused bytes (strings_of file at) (bit_and (vd_flags file here) 1 == 0) (number_in (vd_ndx file here)) index name.at _ fault found (definition_name file name_bytes at p index name inside part index_is))
 
 pub definition_named : (file name_bytes : List ℕ) (at p from word flags index : ℕ) (text : List ℕ) (place name : RecordPlace) → IsDefinition file at p word place → number_in word < 1024
@@ -154,7 +154,7 @@ definition_named file name_bytes at p from word flags index text place name is s
     by_flag false number = refl
 
 pub definition_next : (file : List ℕ) (at p from distance : ℕ) (place : RecordPlace) (next : Option RecordPlace) → IsInside file at p 20 place → distance ≡ vd_next file (sh_offset file at + p) → next ≡ next_along place distance
-    → IsNext Definition 0 None (sh_offset file at) (next_position file (sh_offset file at) (state_at Definition 0 p from)) next
+    → IsNextRecord Definition 0 None (sh_offset file at) (next_position file (sh_offset file at) (state_at Definition 0 p from)) next
 unfolding next_position next_word
 definition_next file at p from distance place next inside is goes =
     let table = sh_offset file at in

@@ -6,7 +6,7 @@ use Rattle.elf_resolve.specs.LibraryVersions.{NumberedName, name_of_number}
 use Rattle.elf_resolve.specs.ObjectSymbols.{HoldsSome}
 use Rattle.elf_resolve.specs.StringBuffers.{HoldsText}
 use Rattle.elf_resolve.specs.VersionTexts.{text_of_number}
-use Rattle.elf_resolve.specs.VersionWalks.{HoldsNames}
+use Rattle.elf_resolve.specs.VersionWalks.{HoldsVersionNames}
 use Rattle.elf_resolve.specs.declared.string_buffer.HeldText.{HeldText}
 use Rattle.elf_resolve.proofs.VersionPlaceLaws.{eq_is, eq_other, eq_true}
 
@@ -35,7 +35,7 @@ name_first (first ∷ known) one number name is = by_test (first.number == numbe
 
 -- an index without a name has one from now on
 pub name_set : (bytes : List ℕ) (texts : List (Option HeldText)) (known : List NumberedName) (number : ℕ) (name : HeldText) (is : List ℕ) → number < 1024 → is_some (text_of_number texts number) ≡ false
-    → HoldsNames bytes texts known → HoldsText bytes name is → HoldsNames bytes (slice_set texts number (Some name)) (known ++ record { number = number; name = is } ∷ [])
+    → HoldsVersionNames bytes texts known → HoldsText bytes name is → HoldsVersionNames bytes (slice_set texts number (Some name)) (known ++ record { number = number; name = is } ∷ [])
 name_set bytes texts known number name is small none held text = record {
   room = length-set texts number (Some name) ∙ held.room;
   names_are = λ other. by_test other (number == other) refl;
@@ -63,7 +63,7 @@ name_set bytes texts known number name is small none held text = record {
 
 -- an index that has a name keeps it
 pub name_kept : (bytes : List ℕ) (texts : List (Option HeldText)) (known : List NumberedName) (number : ℕ) (is : List ℕ) → is_some (text_of_number texts number) ≡ true
-    → HoldsNames bytes texts known → HoldsNames bytes texts (known ++ record { number = number; name = is } ∷ [])
+    → HoldsVersionNames bytes texts known → HoldsVersionNames bytes texts (known ++ record { number = number; name = is } ∷ [])
 name_kept bytes texts known number is some held = record {
   room = held.room;
   names_are = λ other. by_test other (number == other) refl;
@@ -87,6 +87,6 @@ all_written n lent new old is same all =
     let long : length new ≡ length old = same ∙ ap length is in
     ap (λ b. take n (new ++ b)) (drop_all (length new) old (omega arith)) ∙ ap (take n) (append-nil new) ∙ take_all n new (omega arith)
 
-pub names_written : (bytes : List ℕ) (n : ℕ) (lent new old : List (Option HeldText)) (names : List NumberedName) → lent ≡ old → length new ≡ length lent → n ≡ length old → HoldsNames bytes new names
-    → HoldsNames bytes (take n (new ++ drop (length new) old)) names
-names_written bytes n lent new old names is same all held = subst (λ (t : List (Option HeldText)). HoldsNames bytes t names) (sym (all_written n lent new old is same all)) held
+pub names_written : (bytes : List ℕ) (n : ℕ) (lent new old : List (Option HeldText)) (names : List NumberedName) → lent ≡ old → length new ≡ length lent → n ≡ length old → HoldsVersionNames bytes new names
+    → HoldsVersionNames bytes (take n (new ++ drop (length new) old)) names
+names_written bytes n lent new old names is same all held = subst (λ (t : List (Option HeldText)). HoldsVersionNames bytes t names) (sym (all_written n lent new old is same all)) held

@@ -11,15 +11,15 @@ use Rattle.elf_model.specs.declared.link_states.LinkRefusal.{LinkRefusal}
 use Rattle.elf_model.specs.declared.versions.VersionKind.TheVariants.{Need}
 use Rattle.elf_resolve.specs.LibraryVersions.{NumberedName, numbered}
 use Rattle.elf_resolve.specs.StringBuffers.{FindsText}
-use Rattle.elf_resolve.specs.VersionWalks.{FindsBytes, FindsNumber, HoldsVersions, IsNext, IsPlace, IsRefusal, after_file, names_here, next_along, place_along, state_at}
+use Rattle.elf_resolve.specs.VersionWalks.{FindsBytes, FindsNumber, HoldsVersions, IsNextRecord, IsRecordPlace, IsRecordRefusal, after_file, names_here, next_along, place_along, state_at}
 use Rattle.elf_resolve.specs.declared.link_faults.LinkFault.{LinkFault}
 use Rattle.elf_resolve.specs.declared.version_records.RecordPlace.{RecordPlace}
 use Rattle.elf_resolve.specs.declared.version_records.VersionSection.{VersionSection}
 use Rattle.elf_resolve.proofs.VersionPlaceLaws.{IsInside, along_place, lt_false, lt_true, need_tested, next_by, numbered_refused, place_outside, refused_as, tested}
 
 -- A NEEDED VERSION that is cut, of too large an index, without a name, and with one
-pub need_cut : (file bytes : List ℕ) (at owner p from : ℕ) (table : VersionSection) (place : RecordPlace) (fault : LinkFault) → HoldsVersions file bytes at table → IsPlace (sh_offset file at) p from place
-    → FindsBytes (section_bytes file at) place 16 (Err fault) → IsRefusal (refusal_of (names_here file at (state_at Need owner p from))) fault
+pub need_cut : (file bytes : List ℕ) (at owner p from : ℕ) (table : VersionSection) (place : RecordPlace) (fault : LinkFault) → HoldsVersions file bytes at table → IsRecordPlace (sh_offset file at) p from place
+    → FindsBytes (section_bytes file at) place 16 (Err fault) → IsRecordRefusal (refusal_of (names_here file at (state_at Need owner p from))) fault
 need_cut file bytes at owner p from table place fault held is found =
     let here = sh_offset file at + p in
     let names = numbered true (number_in (vna_other file here)) (link_name (strings_of file at) (vna_name file here) (here + 0)) in
@@ -37,7 +37,7 @@ need_inside file at owner p from small within is =
     need_tested file at owner p from ∙ ap (λ o. tested o true (nat_lt (number_in (vna_other file here)) 1024) o from here names) whole ∙ ap (λ s. tested false true s false from here names) is
 
 pub need_large : (file : List ℕ) (at owner p from word : ℕ) (place : RecordPlace) (fault : LinkFault) → IsInside file at p 16 place → word ≡ vna_other file (sh_offset file at + p) → FindsNumber word place.at (Err fault)
-    → IsRefusal (refusal_of (names_here file at (state_at Need owner p from))) fault
+    → IsRecordRefusal (refusal_of (names_here file at (state_at Need owner p from))) fault
 need_large file at owner p from word place fault inside is found =
     let large = lt_false (number_in (vna_other file (sh_offset file at + p))) 1024 (subst (λ w. 1024 ≤ number_in w) is found.0) in
     refused_as (names_here file at (state_at Need owner p from)) (sh_offset file at + p) place.at VersionIndex fault (need_inside file at owner p from false inside.within large) inside.at_is found.1
@@ -53,11 +53,11 @@ need_small : (file : List ℕ) (at p word : ℕ) → word ≡ vna_other file (sh
 need_small file at p word is small = lt_true (number_in (vna_other file (sh_offset file at + p))) 1024 (subst (λ w. number_in w < 1024) is small)
 
 pub need_unnamed : (file bytes : List ℕ) (at owner p from word index : ℕ) (place : RecordPlace) (fault : LinkFault) → IsInside file at p 16 place → word ≡ vna_other file (sh_offset file at + p) → number_in word < 1024
-    → index ≡ vna_name file (sh_offset file at + p) → FindsText bytes (strings_of file at) index place.at (Err fault) → IsRefusal (refusal_of (names_here file at (state_at Need owner p from))) fault
+    → index ≡ vna_name file (sh_offset file at + p) → FindsText bytes (strings_of file at) index place.at (Err fault) → IsRecordRefusal (refusal_of (names_here file at (state_at Need owner p from))) fault
 need_unnamed file bytes at owner p from word index place fault inside is small named found =
     let here = sh_offset file at + p in
     let known = need_inside file at owner p from true inside.within (need_small file at p word is small) in
-    subst (λ (r : Result (List NumberedName) LinkRefusal). IsRefusal (refusal_of r) fault) (sym known)
+    subst (λ (r : Result (List NumberedName) LinkRefusal). IsRecordRefusal (refusal_of r) fault) (sym known)
     (numbered_refused bytes (strings_of file at) true (number_in (vna_other file here)) index place.at _ fault found (need_name file at p index place inside named))
 
 pub need_named : (file : List ℕ) (at owner p from word index : ℕ) (name : List ℕ) (place : RecordPlace) → IsInside file at p 16 place → word ≡ vna_other file (sh_offset file at + p) → number_in word < 1024
@@ -70,7 +70,7 @@ need_named file at owner p from word index name place inside is small named call
     ∙ ap (λ w. Ok (record { number = number_in w; name = name } ∷ [])) (sym is)
 
 pub need_next : (file : List ℕ) (at owner p from distance : ℕ) (place : RecordPlace) (next : Option RecordPlace) → IsInside file at p 16 place → distance ≡ vna_next file (sh_offset file at + p) → next ≡ next_along place distance
-    → IsNext Need owner (after_file file at owner) (sh_offset file at) (next_position file (sh_offset file at) (state_at Need owner p from)) next
+    → IsNextRecord Need owner (after_file file at owner) (sh_offset file at) (next_position file (sh_offset file at) (state_at Need owner p from)) next
 unfolding next_position next_word
 need_next file at owner p from distance place next inside is goes =
     let table = sh_offset file at in

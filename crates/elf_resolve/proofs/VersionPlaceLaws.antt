@@ -19,7 +19,7 @@ use Rattle.elf_model.specs.declared.versions.VersionKind.TheVariants.{Definition
 use Rattle.elf_model.proofs.Slices.{field-slice, slice-slice}
 use Rattle.elf_resolve.specs.LibraryVersions.{NumberedName, names_of_record, names_visited, numbered, version_names}
 use Rattle.elf_resolve.specs.StringBuffers.{FindsText}
-use Rattle.elf_resolve.specs.VersionWalks.{HoldsVersions, IsNext, IsPlace, IsRefusal, file_fault, names_from, names_here, place_along, state_at}
+use Rattle.elf_resolve.specs.VersionWalks.{HoldsVersions, IsNextRecord, IsRecordPlace, IsRecordRefusal, file_fault, names_from, names_here, place_along, state_at}
 use Rattle.elf_resolve.specs.declared.link_faults.LinkFault.{LinkFault}
 use Rattle.elf_resolve.specs.declared.link_faults.LinkFault.TheVariants as fault
 use Rattle.elf_resolve.specs.declared.version_records.RecordPlace.{RecordPlace}
@@ -37,14 +37,14 @@ exact_at off all start here p size fits from_start from_here some within =
     let same : start ≡ p = omega arith in
     (same, omega arith, omega arith)
 
-pub place_inside : (file bytes : List ℕ) (at p from size : ℕ) (table : VersionSection) (place : RecordPlace) → HoldsVersions file bytes at table → IsPlace (sh_offset file at) p from place → 0 < size
+pub place_inside : (file bytes : List ℕ) (at p from size : ℕ) (table : VersionSection) (place : RecordPlace) → HoldsVersions file bytes at table → IsRecordPlace (sh_offset file at) p from place → 0 < size
     → place.start + size ≤ length (section_bytes file at) → IsInside file at p size place
 place_inside file bytes at p from size table place held is some within =
     let fits = subst (λ n. n + sh_size file at < 2 ^ 64) held.at_is held.fits in
     let exact = exact_at (sh_offset file at) (sh_size file at) place.start place.at p size fits is.start is.at_is some (subst (λ n. place.start + size ≤ n) held.whole within) in
     record { start = exact.0; at_is = exact.1; within = exact.2 }
 
-pub place_outside : (file bytes : List ℕ) (at p from size : ℕ) (table : VersionSection) (place : RecordPlace) → HoldsVersions file bytes at table → IsPlace (sh_offset file at) p from place
+pub place_outside : (file bytes : List ℕ) (at p from size : ℕ) (table : VersionSection) (place : RecordPlace) → HoldsVersions file bytes at table → IsRecordPlace (sh_offset file at) p from place
     → length (section_bytes file at) < place.start + size → sh_size file at < p + size
 place_outside file bytes at p from size table place held is past = past_end place.start p (sh_size file at) is.start (subst (λ n. n < place.start + size) held.whole past)
   where
@@ -52,7 +52,7 @@ place_outside file bytes at p from size table place held is past = past_end plac
     past_end start p all is past = omega arith
 
 -- the place at a distance from it
-pub along_place : (file : List ℕ) (at p size distance : ℕ) (place : RecordPlace) → IsInside file at p size place → IsPlace (sh_offset file at) (p + distance) (sh_offset file at + p) (place_along place distance)
+pub along_place : (file : List ℕ) (at p size distance : ℕ) (place : RecordPlace) → IsInside file at p size place → IsRecordPlace (sh_offset file at) (p + distance) (sh_offset file at + p) (place_along place distance)
 along_place file at p size distance place inside = record {
   start = ap (λ n. min (n + distance) (2 ^ 64 - 1)) inside.start;
   at_is = ap (λ n. min (n + distance) (2 ^ 64 - 1)) inside.at_is ∙ ap (λ n. min n (2 ^ 64 - 1)) (omega arith);
@@ -180,11 +180,11 @@ eq_other m n other = grind (arith, nat_tests)
 
 -- A REFUSAL of a record, and of a name
 pub refused_as : (known : Result (List NumberedName) LinkRefusal) (at place : ℕ) (why : Cause) (fault : LinkFault) → known ≡ refused_at at (cause.Refused why) → place ≡ at → fault ≡ file_fault place why
-    → IsRefusal (refusal_of known) fault
+    → IsRecordRefusal (refusal_of known) fault
 refused_as known at place why fault is same from = rw (from, is) (ap (λ n. Some (record { at = n; cause = cause.Refused why })) (sym same))
 
 pub numbered_refused : (bytes strings : List ℕ) (names_version : Bool) (number index at : ℕ) (name : Result (List ℕ) LinkRefusal) (fault : LinkFault) → FindsText bytes strings index at (Err fault)
-    → name ≡ link_name strings index at → IsRefusal (refusal_of (numbered names_version number name)) fault
+    → name ≡ link_name strings index at → IsRecordRefusal (refusal_of (numbered names_version number name)) fault
 numbered_refused bytes strings names_version number index at name (fault.Refused refusal) found same = ap (λ n. refusal_of (numbered names_version number n)) (same ∙ found)
 numbered_refused bytes strings names_version number index at name fault.Read found same = absurd found
 numbered_refused bytes strings names_version number index at name fault.Open found same = absurd found
@@ -192,6 +192,6 @@ numbered_refused bytes strings names_version number index at name fault.Memory f
 
 -- THE NEXT PLACE, by the test of the distance to it
 pub next_by : (kind : VersionKind) (owner : ℕ) (end : Option RecordCursorState) (table at from : ℕ) (shape : Bool → Option RecordCursorState) (last : Bool) (place : RecordPlace)
-    → shape true ≡ end → shape false ≡ Some (state_at kind owner at from) → IsPlace table at from place → IsNext kind owner end table (shape last) (if last then None else Some place)
+    → shape true ≡ end → shape false ≡ Some (state_at kind owner at from) → IsRecordPlace table at from place → IsNextRecord kind owner end table (shape last) (if last then None else Some place)
 next_by kind owner end table at from shape true place ends goes is = ends
 next_by kind owner end table at from shape false place ends goes is = (at, from, goes, is)

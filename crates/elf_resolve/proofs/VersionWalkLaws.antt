@@ -14,7 +14,7 @@ use Rattle.elf_model.specs.declared.link_states.LinkRefusal.{LinkRefusal}
 use Rattle.elf_model.specs.declared.versions.VersionKind.{VersionKind}
 use Rattle.elf_model.specs.declared.versions.VersionKind.TheVariants.{File, Need}
 use Rattle.elf_resolve.specs.LibraryVersions.{NumberedName, version_names}
-use Rattle.elf_resolve.specs.VersionWalks.{FindsRecord, HoldsNames, HoldsVersions, IsNext, IsPlace, IsRefusal, PassesAll, ReadsNames, ReadsRecord, WalksNames, after_file, first_along, names_from, names_here, next_along, place_along, state_at}
+use Rattle.elf_resolve.specs.VersionWalks.{FindsRecord, HoldsVersionNames, HoldsVersions, IsNextRecord, IsRecordPlace, IsRecordRefusal, PassesAll, ReadsNames, ReadsVersionRecord, WalksNames, after_file, first_along, names_from, names_here, next_along, place_along, state_at}
 use Rattle.elf_resolve.specs.declared.link_faults.LinkFault.{LinkFault}
 use Rattle.elf_resolve.specs.declared.link_faults.LinkFault.TheVariants as fault
 use Rattle.elf_resolve.specs.declared.string_buffer.HeldText.{HeldText}
@@ -26,7 +26,7 @@ use Rattle.elf_resolve.proofs.VersionPlaceLaws.{IsInside, along_place, eq_false,
 
 -- A WALK at its start, after one record more, at a fault, at its end, and past its end
 pub walk_first : (file bytes : List ℕ) (at left : ℕ) (kind : VersionKind) (table : VersionSection) (texts : List (Option HeldText)) (next : Option RecordPlace) → HoldsVersions file bytes at table
-    → HoldsNames bytes texts [] → next ≡ first_along table → left ≡ table.records.size / record_size kind
+    → HoldsVersionNames bytes texts [] → next ≡ first_along table → left ≡ table.records.size / record_size kind
     → WalksNames file bytes at kind 0 None (version_names kind file at) [] left texts next
 walk_first file bytes at left kind table texts next held none first most = record {
   state = first_position kind at (sh_size file at);
@@ -41,10 +41,10 @@ walk_first file bytes at left kind table texts next held none first most = recor
     sized : table.records.size ≡ sh_size file at
     sized = sym (held_size bytes table.records (section_bytes file at) held.records) ∙ held.whole
 
-    start : IsPlace (sh_offset file at) 0 at (record { start = 0; at = table.at; led_by = table.header })
+    start : IsRecordPlace (sh_offset file at) 0 at (record { start = 0; at = table.at; led_by = table.header })
     start = record { start = refl; at_is = omega (arith, held.at_is, held.fits); led_by = held.header_is }
 
-    by_test : (none : Bool) → IsNext kind 0 None (sh_offset file at) (if none then None else Some (state_at kind 0 0 at)) (if none then None else Some (record { start = 0; at = table.at; led_by = table.header }))
+    by_test : (none : Bool) → IsNextRecord kind 0 None (sh_offset file at) (if none then None else Some (state_at kind 0 0 at)) (if none then None else Some (record { start = 0; at = table.at; led_by = table.header }))
     by_test true = refl
     by_test false = (0, at, refl, start)
 
@@ -56,13 +56,13 @@ walk_here file bytes at owner left rest kind end known names texts next place mo
   done = walk.done;
   known_is = walk.known_is ∙ ap (λ n. followed walk.done (names_from file at walk.state n)) more;
   holds = walk.holds;
-  next_is = subst (IsNext kind owner end (sh_offset file at) walk.state) is walk.next_is;
+  next_is = subst (IsNextRecord kind owner end (sh_offset file at) walk.state) is walk.next_is;
 }
 
 -- the record at a place of a walk
 pub walk_more : (file bytes : List ℕ) (at owner left : ℕ) (kind : VersionKind) (end : Option RecordCursorState) (known : Result (List NumberedName) LinkRefusal) (names : List NumberedName)
     (texts next_texts : List (Option HeldText)) (place : RecordPlace) (next : Option RecordPlace) (walk : WalksNames file bytes at kind owner end known names (suc left) texts (Some place))
-    → ReadsRecord file bytes at (state_at kind owner walk.next_is.0 walk.next_is.1) (names ++ walk.done) next_texts end (Ok next) → WalksNames file bytes at kind owner end known names left next_texts next
+    → ReadsVersionRecord file bytes at (state_at kind owner walk.next_is.0 walk.next_is.1) (names ++ walk.done) next_texts end (Ok next) → WalksNames file bytes at kind owner end known names left next_texts next
 walk_more file bytes at owner left kind end known names texts next_texts place next walk read =
     let stand = state_at kind owner walk.next_is.0 walk.next_is.1 in
     let step = ap (λ s. names_from file at s (suc left)) walk.next_is.2 ∙ names_next file at left stand in
@@ -70,12 +70,12 @@ walk_more file bytes at owner left kind end known names texts next_texts place n
       state = next_position file (sh_offset file at) stand;
       done = walk.done ++ read.0;
       known_is = followed_more known (names_from file at walk.state (suc left)) (names_here file at stand) (names_from file at (next_position file (sh_offset file at) stand) left) walk.done read.0 walk.known_is step read.1;
-      holds = subst (HoldsNames bytes next_texts) (append_assoc names walk.done read.0) read.2;
+      holds = subst (HoldsVersionNames bytes next_texts) (append_assoc names walk.done read.0) read.2;
       next_is = read.3;
     }
 
 refusal_then : (known left part rest : Result (List NumberedName) LinkRefusal) (done : List NumberedName) (fault : LinkFault) → known ≡ followed done left → left ≡ and_then part rest
-    → IsRefusal (refusal_of part) fault → IsRefusal (refusal_of known) fault
+    → IsRecordRefusal (refusal_of part) fault → IsRecordRefusal (refusal_of known) fault
 refusal_then known left (Ok names) rest done (fault.Refused refusal) so_far step is = absurd (cc)
 refusal_then known left (Err other) rest done (fault.Refused refusal) so_far step is = ap refusal_of (so_far ∙ ap (followed done) step) ∙ is
 refusal_then known left part rest done fault.Read so_far step is = absurd is
@@ -84,7 +84,7 @@ refusal_then known left part rest done fault.Memory so_far step is = absurd is
 
 pub walk_fault : (file bytes : List ℕ) (at owner left : ℕ) (kind : VersionKind) (end : Option RecordCursorState) (known : Result (List NumberedName) LinkRefusal) (names : List NumberedName)
     (texts : List (Option HeldText)) (place : RecordPlace) (fault : LinkFault) (walk : WalksNames file bytes at kind owner end known names (suc left) texts (Some place))
-    → IsRefusal (refusal_of (names_here file at (state_at kind owner walk.next_is.0 walk.next_is.1))) fault → IsRefusal (refusal_of known) fault
+    → IsRecordRefusal (refusal_of (names_here file at (state_at kind owner walk.next_is.0 walk.next_is.1))) fault → IsRecordRefusal (refusal_of known) fault
 walk_fault file bytes at owner left kind end known names texts place fault walk is =
     let stand = state_at kind owner walk.next_is.0 walk.next_is.1 in
     let step = ap (λ s. names_from file at s (suc left)) walk.next_is.2 ∙ names_next file at left stand in
@@ -93,7 +93,7 @@ walk_fault file bytes at owner left kind end known names texts place fault walk 
 pub walk_end : (file bytes : List ℕ) (at owner left : ℕ) (kind : VersionKind) (known : Result (List NumberedName) LinkRefusal) (texts : List (Option HeldText)) (next : Option RecordPlace) → next ≡ None
     → WalksNames file bytes at kind owner None known [] left texts next → ReadsNames known bytes texts (Ok tt)
 walk_end file bytes at owner left kind known texts next last walk =
-    let ended : walk.state ≡ None = subst (IsNext kind owner None (sh_offset file at) walk.state) last walk.next_is in (
+    let ended : walk.state ≡ None = subst (IsNextRecord kind owner None (sh_offset file at) walk.state) last walk.next_is in (
       walk.done,
       followed_all known (names_from file at walk.state left) walk.done walk.known_is (ap (λ s. names_from file at s left) ended ∙ names_end file at left),
       walk.holds,
@@ -101,21 +101,21 @@ walk_end file bytes at owner left kind known texts next last walk =
 
 pub walk_past : (file bytes : List ℕ) (at owner left : ℕ) (kind : VersionKind) (end : Option RecordCursorState) (known : Result (List NumberedName) LinkRefusal) (names : List NumberedName)
     (texts : List (Option HeldText)) (next : Option RecordPlace) (fault : LinkFault) → left ≡ 0 → WalksNames file bytes at kind owner end known names left texts next → PassesAll next (Err fault)
-    → IsRefusal (refusal_of known) fault
+    → IsRecordRefusal (refusal_of known) fault
 walk_past file bytes at owner left kind end known names texts next fault none walk past =
-    let here = subst (IsNext kind owner end (sh_offset file at) walk.state) past.1 walk.next_is in
+    let here = subst (IsNextRecord kind owner end (sh_offset file at) walk.state) past.1 walk.next_is in
     let stand = state_at kind owner here.0 here.1 in
     let all = walk.known_is ∙ ap (λ n. followed walk.done (names_from file at walk.state n)) none ∙ ap (λ s. followed walk.done (names_from file at s 0)) here.2 ∙ ap (followed walk.done) (names_past file at stand) in
     rw (past.2, all) (ap (λ a. Some (record { at = a; cause = cause.Refused VersionCut })) (sym here.3.led_by))
 
 -- THE VERSIONS OF A FILE: a walk at the first, the names that they leave, and their refusal
-pub walk_versions : (file bytes : List ℕ) (at owner p from left : ℕ) (names : List NumberedName) (texts : List (Option HeldText)) (place : RecordPlace) → IsPlace (sh_offset file at) p from place
-    → HoldsNames bytes texts names → WalksNames file bytes at Need owner (after_file file at owner) (names_from file at (Some (state_at Need owner p from)) left) names left texts (Some place)
+pub walk_versions : (file bytes : List ℕ) (at owner p from left : ℕ) (names : List NumberedName) (texts : List (Option HeldText)) (place : RecordPlace) → IsRecordPlace (sh_offset file at) p from place
+    → HoldsVersionNames bytes texts names → WalksNames file bytes at Need owner (after_file file at owner) (names_from file at (Some (state_at Need owner p from)) left) names left texts (Some place)
 walk_versions file bytes at owner p from left names texts place is held = record {
   state = Some (state_at Need owner p from);
   done = [];
   known_is = followed_none (names_from file at (Some (state_at Need owner p from)) left);
-  holds = subst (HoldsNames bytes texts) (sym (append-nil names)) held;
+  holds = subst (HoldsVersionNames bytes texts) (sym (append-nil names)) held;
   next_is = (p, from, refl, is);
 }
 
@@ -123,7 +123,7 @@ pub walk_left : (file bytes : List ℕ) (at owner left rest : ℕ) (kind : Versi
     (texts : List (Option HeldText)) (next : Option RecordPlace) → next ≡ None → rest ≡ left → (walk : WalksNames file bytes at kind owner end known names left texts next)
     → known ≡ followed walk.done (names_from file at end rest)
 walk_left file bytes at owner left rest kind end known names texts next last same walk =
-    let ended : walk.state ≡ end = subst (IsNext kind owner end (sh_offset file at) walk.state) last walk.next_is in
+    let ended : walk.state ≡ end = subst (IsNextRecord kind owner end (sh_offset file at) walk.state) last walk.next_is in
     walk.known_is ∙ ap (λ s. followed walk.done (names_from file at s left)) ended ∙ ap (λ n. followed walk.done (names_from file at end n)) (sym same)
 
 -- a walk whose records are all read, or one too many
@@ -133,8 +133,8 @@ ended file bytes at owner left kind known texts next (Ok tt) none walk past = wa
 ended file bytes at owner left kind known texts next (Err fault) none walk past = walk_past file bytes at owner left kind None known [] texts next fault none walk past
 
 -- A NEEDED FILE of a walk: its record is refused, or its versions are next
-pub file_refused : (file bytes : List ℕ) (at p from : ℕ) (table : VersionSection) (place : RecordPlace) (fault : LinkFault) → HoldsVersions file bytes at table → IsPlace (sh_offset file at) p from place
-    → FindsRecord (section_bytes file at) place 16 (Err fault) → IsRefusal (refusal_of (names_here file at (state_at File 0 p from))) fault
+pub file_refused : (file bytes : List ℕ) (at p from : ℕ) (table : VersionSection) (place : RecordPlace) (fault : LinkFault) → HoldsVersions file bytes at table → IsRecordPlace (sh_offset file at) p from place
+    → FindsRecord (section_bytes file at) place 16 (Err fault) → IsRecordRefusal (refusal_of (names_here file at (state_at File 0 p from))) fault
 file_refused file bytes at p from table place fault held is (inl found) =
     let here = sh_offset file at + p in
     let outside = lt_true (sh_size file at) (p + 16) (place_outside file bytes at p from 16 table place held is found.0) in
@@ -173,8 +173,8 @@ file_step file bytes record_bytes at p from rest known texts place walk p_is fro
     ∙ sym (followed_none (names_from file at (next_position file (sh_offset file at) stand) rest)) in
     walk.known_is ∙ ap (λ s. followed walk.done (names_from file at s (suc rest))) here ∙ ap (followed walk.done) (step ∙ ap (λ s. names_from file at s rest) (file_leads file at p from))
 
-pub versions_refused : (known left : Result (List NumberedName) LinkRefusal) (done : List NumberedName) (fault : LinkFault) → known ≡ followed done left → IsRefusal (refusal_of left) fault
-    → IsRefusal (refusal_of known) fault
+pub versions_refused : (known left : Result (List NumberedName) LinkRefusal) (done : List NumberedName) (fault : LinkFault) → known ≡ followed done left → IsRecordRefusal (refusal_of left) fault
+    → IsRecordRefusal (refusal_of known) fault
 versions_refused known (Ok names) done (fault.Refused refusal) so_far is = absurd (cc)
 versions_refused known (Err other) done (fault.Refused refusal) so_far is = ap refusal_of so_far ∙ is
 versions_refused known left done fault.Read so_far is = absurd is
@@ -187,7 +187,7 @@ followed_twice known (Err refusal) done more is = is
 
 pub file_more : (file bytes : List ℕ) (at p left distance : ℕ) (known versions : Result (List NumberedName) LinkRefusal) (done more : List NumberedName) (texts : List (Option HeldText)) (place : RecordPlace) (next : Option RecordPlace)
     → IsInside file at p 16 place → distance ≡ vn_next file (sh_offset file at + p) → next ≡ next_along place distance
-    → known ≡ followed done versions → versions ≡ followed more (names_from file at (after_file file at p) left) → HoldsNames bytes texts (done ++ more)
+    → known ≡ followed done versions → versions ≡ followed more (names_from file at (after_file file at p) left) → HoldsVersionNames bytes texts (done ++ more)
     → WalksNames file bytes at File 0 None known [] left texts next
 file_more file bytes at p left distance known versions done more texts place next inside far goes so_far is held =
     let table = sh_offset file at in

@@ -23,8 +23,8 @@ pub record LibraryVersions : Type 0 where
 
 -- THE VERSION INDEX of a symbol, in the section of them whose header is at an offset; the section is
 -- refused if it has none for it
-abbrev pub version_word : List ℕ → (at symbol : ℕ) → Result ℕ LinkRefusal
-version_word file at symbol =
+abbrev pub version_index_at : List ℕ → (at symbol : ℕ) → Result ℕ LinkRefusal
+version_index_at file at symbol =
     if nat_lt symbol (entry_count file at VERSYM_SIZE) then Ok (versym file (entry_at file at VERSYM_SIZE symbol))
     else refused_at at (Refused VersionCut)
 
@@ -35,16 +35,16 @@ version_name versions number true = name_of_number versions.needed number
 version_name versions number false = if nat_lt number 2 then Some [] else name_of_number versions.defined number
 
 -- a symbol is a reference
-abbrev pub is_reference : List ℕ → (at : ℕ) → Bool
-is_reference file at = st_shndx file at == SHN_UNDEF
+abbrev pub is_undefined_at : List ℕ → (at : ℕ) → Bool
+is_undefined_at file at = st_shndx file at == SHN_UNDEF
 
 -- a symbol has no version: it is not hidden, and it has an index of no version or is absolute, though
 -- no function
-abbrev pub is_absolute : List ℕ → (at : ℕ) → Bool
-is_absolute file at = st_shndx file at == SHN_ABS && not (is_function file at)
+abbrev pub is_absolute_data : List ℕ → (at : ℕ) → Bool
+is_absolute_data file at = st_shndx file at == SHN_ABS && not (is_function file at)
 
 abbrev pub has_no_version : List ℕ → (at word : ℕ) → Bool
-has_no_version file at word = not (is_hidden word) && (nat_lt (number_in word) 2 || is_absolute file at)
+has_no_version file at word = not (is_hidden word) && (nat_lt (number_in word) 2 || is_absolute_data file at)
 
 -- THE NAMES OF THE KEYS of a symbol: with its version if it has one, and without it if a definition has
 -- it as the default one
@@ -64,33 +64,33 @@ abbrev pub names_by_word : List ℕ → LibraryVersions → (at word_at : ℕ) �
 names_by_word file versions at word_at name (Err refusal) = Err refusal
 names_by_word file versions at word_at name (Ok word) =
     if has_no_version file at word then Ok (name_alone name)
-    else names_with (not (is_reference file at || is_hidden word)) name word_at (version_name versions (number_in word) (is_reference file at))
+    else names_with (not (is_undefined_at file at || is_hidden word)) name word_at (version_name versions (number_in word) (is_undefined_at file at))
 
 abbrev pub key_names : List ℕ → LibraryVersions → (indexes : Option ℕ) → (at symbol : ℕ) → (name : List ℕ) → Result KeyNames LinkRefusal
 key_names file versions None at symbol name = Ok (name_alone name)
 key_names file versions (Some header) at symbol name =
-    names_by_word file versions at (entry_at file header VERSYM_SIZE symbol) name (version_word file header symbol)
+    names_by_word file versions at (entry_at file header VERSYM_SIZE symbol) name (version_index_at file header symbol)
 
 -- a symbol by the names of its keys
-abbrev pub symbol_named : List ℕ → (at : ℕ) → Result KeyNames LinkRefusal → Result (List LinkSymbol) LinkRefusal
-symbol_named file at (Err refusal) = Err refusal
-symbol_named file at (Ok names) =
+abbrev pub library_symbol_named : List ℕ → (at : ℕ) → Result KeyNames LinkRefusal → Result (List LinkSymbol) LinkRefusal
+library_symbol_named file at (Err refusal) = Err refusal
+library_symbol_named file at (Ok names) =
     Ok (record { name = names.name; default_name = names.default_name; symbol = library_use (library_role file at) } ∷ [])
 
 -- A SYMBOL counts if it is global and has a name; the mark of intermediate code alone is refused
 abbrev pub symbol_counted : List ℕ → LibraryVersions → (at symbol : ℕ) → (name : List ℕ) → Result (List LinkSymbol) LinkRefusal
 symbol_counted file versions at symbol [] = Ok []
-symbol_counted file versions at symbol (byte ∷ name) = symbol_named file at (key_names file versions versions.indexes at symbol (byte ∷ name))
+symbol_counted file versions at symbol (byte ∷ name) = library_symbol_named file at (key_names file versions versions.indexes at symbol (byte ∷ name))
 
-abbrev pub symbol_called : List ℕ → LibraryVersions → (at symbol : ℕ) → Result (List ℕ) LinkRefusal → Result (List LinkSymbol) LinkRefusal
-symbol_called file versions at symbol (Err refusal) = Err refusal
-symbol_called file versions at symbol (Ok name) =
+abbrev pub library_symbol_called : List ℕ → LibraryVersions → (at symbol : ℕ) → Result (List ℕ) LinkRefusal → Result (List LinkSymbol) LinkRefusal
+library_symbol_called file versions at symbol (Err refusal) = Err refusal
+library_symbol_called file versions at symbol (Ok name) =
     if bytes_eq name LTO_MARK then refused_at at Lto else symbol_counted file versions at symbol name
 
 unfoldable pub library_symbol_at : List ℕ → LibraryVersions → (table_at symbol : ℕ) → Result (List LinkSymbol) LinkRefusal
 library_symbol_at file versions table_at symbol =
     let at = entry_at file table_at SYMBOL_SIZE symbol in
-    if is_global file at then symbol_called file versions at symbol (link_name (strings_of file table_at) (st_name file at) at) else Ok []
+    if is_global file at then library_symbol_called file versions at symbol (link_name (strings_of file table_at) (st_name file at) at) else Ok []
 
 -- the symbols of a table from an index on, this many
 unfoldable pub library_symbols_from : List ℕ → LibraryVersions → (table_at symbol count : ℕ) → Result (List LinkSymbol) LinkRefusal

@@ -16,7 +16,7 @@ use Rattle.elf_resolve.specs.ObjectTables.{HoldsSymbols}
 use Rattle.elf_resolve.specs.StringBuffers.{HoldsText}
 use Rattle.elf_resolve.specs.Symbols.{TookSymbols}
 use Rattle.elf_resolve.specs.Taken.{IsLinkFault}
-use Rattle.elf_resolve.specs.VersionWalks.{HoldsNames, IsRefusal}
+use Rattle.elf_resolve.specs.VersionWalks.{HoldsVersionNames, IsRecordRefusal}
 use Rattle.elf_resolve.specs.declared.library.LibraryTables.{LibraryTables}
 use Rattle.elf_resolve.specs.declared.library.VersionRows.{VersionRows}
 use Rattle.elf_resolve.specs.declared.library_symbols.LibrarySymbol.{LibrarySymbol}
@@ -45,13 +45,13 @@ HoldsSomeIndexes file bytes header (Some indexes) = (at : ℕ) × (header ≡ So
 -- THE VERSIONS OF A LIBRARY in a buffer
 pub record HoldsLibraryVersions (file bytes : List ℕ) (indexes : Option VersionRows) (texts : VersionNames) (versions : LibraryVersions) : Type 0 where
   pub indexes_are : HoldsSomeIndexes file bytes versions.indexes indexes
-  pub defined : HoldsNames bytes texts.defined.items versions.defined
-  pub needed : HoldsNames bytes texts.needed.items versions.needed
+  pub defined : HoldsVersionNames bytes texts.defined.items versions.defined
+  pub needed : HoldsVersionNames bytes texts.needed.items versions.needed
 
 -- a version index is found, or the section has none
-abbrev pub FindsWord : Result ℕ LinkRefusal → Result ℕ LinkFault → Type 0
-FindsWord known (Ok word) = known ≡ Ok word
-FindsWord known (Err fault) = IsRefusal (refusal_of known) fault
+abbrev pub FindsVersionIndex : Result ℕ LinkRefusal → Result ℕ LinkFault → Type 0
+FindsVersionIndex known (Ok word) = known ≡ Ok word
+FindsVersionIndex known (Err fault) = IsRecordRefusal (refusal_of known) fault
 
 -- THE NAMES OF THE KEYS of a symbol are in a buffer, or refused, or there is no room for them
 pub record HoldsKeyNames (bytes : List ℕ) (texts : HeldText × Option HeldText) (names : KeyNames) : Type 0 where
@@ -75,9 +75,9 @@ FindsLibrarySymbol known bytes at (Ok (Some found)) = (symbol : LinkSymbol) × (
 FindsLibrarySymbol known bytes at (Err fault) = IsLinkFault (refusal_of known) fault
 
 -- SYMBOLS TAKEN of a row, up to the first refusal
-abbrev pub TakesSymbols : Result (List LinkSymbol) LinkRefusal → (old new : KeyList) → (row : ℕ) → Result (Unit {0}) LinkFault → Type 0
-TakesSymbols known old new row (Ok done) = (symbols : List LinkSymbol) × (known ≡ Ok symbols) × TookSymbols old new symbols (Some row)
-TakesSymbols known old new row (Err fault) = IsLinkFault (refusal_of known) fault
+abbrev pub TakesLibrarySymbols : Result (List LinkSymbol) LinkRefusal → (old new : KeyList) → (row : ℕ) → Result (Unit {0}) LinkFault → Type 0
+TakesLibrarySymbols known old new row (Ok done) = (symbols : List LinkSymbol) × (known ≡ Ok symbols) × TookSymbols old new symbols (Some row)
+TakesLibrarySymbols known old new row (Err fault) = IsLinkFault (refusal_of known) fault
 
 -- the symbols up to an index of a table are taken: with the others they are those from the first
 abbrev pub TookLibraryRows : (file : List ℕ) → LibraryVersions → (table_at first index count : ℕ) → (old new : KeyList) → (row : ℕ) → Type 0

@@ -27,14 +27,14 @@ numbered true number (Ok name) = Ok (record { number = number; name = name } ∷
 numbered false number (Ok name) = Ok []
 
 -- a record is one of a needed file
-abbrev pub is_file : VersionKind → Bool
-is_file File = true
-is_file _ = false
+abbrev pub is_needed_file : VersionKind → Bool
+is_needed_file File = true
+is_needed_file _ = false
 
 -- WHAT A RECORD NAMES, or the refusal of its name; the name of a needed file does not count
 unfoldable pub names_of_record : List ℕ → (strings : List ℕ) → VisitedRecord → Result (List NumberedName) LinkRefusal
 names_of_record file strings met =
-    if is_file met.kind then Ok []
+    if is_needed_file met.kind then Ok []
     else numbered (names_version file met) (number_in (number_word file met)) (link_name strings (name_index file met) (named_at file met))
 
 -- what the records name in their order, before what ends them

@@ -35,7 +35,7 @@ pub record HoldsVersions (file bytes : List ℕ) (at : ℕ) (table : VersionSect
   pub fits : table.at + sh_size file at < 2 ^ 64
 
 -- THE NAMES of versions are in a buffer, by their indexes
-pub record HoldsNames (bytes : List ℕ) (texts : List (Option HeldText)) (names : List NumberedName) : Type 0 where
+pub record HoldsVersionNames (bytes : List ℕ) (texts : List (Option HeldText)) (names : List NumberedName) : Type 0 where
   pub room : length texts ≡ VERSION_NUMBERS
   pub names_are : (number : ℕ) → HoldsSome bytes (text_of_number texts number) (name_of_number names number)
 
@@ -45,20 +45,20 @@ pub record HasRoomForNames (versions : VersionNames) : Type 0 where
   pub needed : length versions.needed.items ≡ VERSION_NUMBERS
 
 pub record HoldsNoNames (versions : VersionNames) : Type 0 where
-  pub defined : (bytes : List ℕ) → HoldsNames bytes versions.defined.items []
-  pub needed : (bytes : List ℕ) → HoldsNames bytes versions.needed.items []
+  pub defined : (bytes : List ℕ) → HoldsVersionNames bytes versions.defined.items []
+  pub needed : (bytes : List ℕ) → HoldsVersionNames bytes versions.needed.items []
 
 -- a fault is the refusal that a file has, and no other
-abbrev pub IsRefusal : Option LinkRefusal → LinkFault → Type 0
-IsRefusal known (Refused refusal) = known ≡ Some refusal
-IsRefusal known Read = ⊥
-IsRefusal known Open = ⊥
-IsRefusal known Memory = ⊥
+abbrev pub IsRecordRefusal : Option LinkRefusal → LinkFault → Type 0
+IsRecordRefusal known (Refused refusal) = known ≡ Some refusal
+IsRecordRefusal known Read = ⊥
+IsRecordRefusal known Open = ⊥
+IsRecordRefusal known Memory = ⊥
 
 -- NAMES READ: those that are known are held, or their refusal is the fault
 abbrev pub ReadsNames : Result (List NumberedName) LinkRefusal → (bytes : List ℕ) → List (Option HeldText) → Result (Unit {0}) LinkFault → Type 0
-ReadsNames known bytes texts (Ok done) = (names : List NumberedName) × (known ≡ Ok names) × HoldsNames bytes texts names
-ReadsNames known bytes texts (Err fault) = IsRefusal (refusal_of known) fault
+ReadsNames known bytes texts (Ok done) = (names : List NumberedName) × (known ≡ Ok names) × HoldsVersionNames bytes texts names
+ReadsNames known bytes texts (Err fault) = IsRecordRefusal (refusal_of known) fault
 
 -- THE BYTES OF A RECORD at a place of a section, or it ends before them
 abbrev pub file_fault : (at : ℕ) → Cause → LinkFault
@@ -101,7 +101,7 @@ PassesAll next (Ok done) = next ≡ None
 PassesAll next (Err fault) = (place : RecordPlace) × (next ≡ Some place) × (fault ≡ file_fault place.led_by VersionCut)
 
 -- A PLACE is that of a record of a table, which another offset led to
-pub record IsPlace (table at from : ℕ) (place : RecordPlace) : Type 0 where
+pub record IsRecordPlace (table at from : ℕ) (place : RecordPlace) : Type 0 where
   pub start : place.start ≡ min at (2 ^ 64 - 1)
   pub at_is : place.at ≡ min (table + at) (2 ^ 64 - 1)
   pub led_by : place.led_by ≡ from
@@ -110,9 +110,9 @@ pub record IsPlace (table at from : ℕ) (place : RecordPlace) : Type 0 where
 abbrev pub state_at : VersionKind → (owner at from : ℕ) → RecordCursorState
 state_at kind owner at from = record { kind = kind; place = at; from = from; owner = owner }
 
-abbrev pub IsNext : VersionKind → (owner : ℕ) → (end : Option RecordCursorState) → (table : ℕ) → Option RecordCursorState → Option RecordPlace → Type 0
-IsNext kind owner end table state None = state ≡ end
-IsNext kind owner end table state (Some place) = (at : ℕ) × (from : ℕ) × (state ≡ Some (state_at kind owner at from)) × IsPlace table at from place
+abbrev pub IsNextRecord : VersionKind → (owner : ℕ) → (end : Option RecordCursorState) → (table : ℕ) → Option RecordCursorState → Option RecordPlace → Type 0
+IsNextRecord kind owner end table state None = state ≡ end
+IsNextRecord kind owner end table state (Some place) = (at : ℕ) × (from : ℕ) × (state ≡ Some (state_at kind owner at from)) × IsRecordPlace table at from place
 
 -- what the record of a state names, or why it is refused
 unfoldable pub names_here : List ℕ → (at : ℕ) → RecordCursorState → Result (List NumberedName) LinkRefusal
@@ -127,11 +127,11 @@ names_from file at state most = names_visited file (strings_of file at) (visited
 
 -- A RECORD READ: what it names is held after other names, and the next place is known; or its refusal
 -- is the fault
-abbrev pub ReadsRecord : (file bytes : List ℕ) → (at : ℕ) → RecordCursorState → List NumberedName → List (Option HeldText) → (end : Option RecordCursorState) → Result (Option RecordPlace) LinkFault → Type 0
-ReadsRecord file bytes at stand names texts end (Ok next) =
-    (more : List NumberedName) × (names_here file at stand ≡ Ok more) × HoldsNames bytes texts (names ++ more)
-    × IsNext stand.kind stand.owner end (sh_offset file at) (next_position file (sh_offset file at) stand) next
-ReadsRecord file bytes at stand names texts end (Err fault) = IsRefusal (refusal_of (names_here file at stand)) fault
+abbrev pub ReadsVersionRecord : (file bytes : List ℕ) → (at : ℕ) → RecordCursorState → List NumberedName → List (Option HeldText) → (end : Option RecordCursorState) → Result (Option RecordPlace) LinkFault → Type 0
+ReadsVersionRecord file bytes at stand names texts end (Ok next) =
+    (more : List NumberedName) × (names_here file at stand ≡ Ok more) × HoldsVersionNames bytes texts (names ++ more)
+    × IsNextRecord stand.kind stand.owner end (sh_offset file at) (next_position file (sh_offset file at) stand) next
+ReadsVersionRecord file bytes at stand names texts end (Err fault) = IsRecordRefusal (refusal_of (names_here file at stand)) fault
 
 -- where the versions of a needed file lead, whose record is at a place: to the next file
 abbrev pub after_file : List ℕ → (at owner : ℕ) → Option RecordCursorState
@@ -142,8 +142,8 @@ abbrev pub ReadsVersions : (file bytes : List ℕ) → (at owner place from left
 ReadsVersions file bytes at owner place from left names texts (Ok rest) =
     (more : List NumberedName)
     × (names_from file at (Some (state_at Need owner place from)) left ≡ followed more (names_from file at (after_file file at owner) rest))
-    × HoldsNames bytes texts (names ++ more)
-ReadsVersions file bytes at owner place from left names texts (Err fault) = IsRefusal (refusal_of (names_from file at (Some (state_at Need owner place from)) left)) fault
+    × HoldsVersionNames bytes texts (names ++ more)
+ReadsVersions file bytes at owner place from left names texts (Err fault) = IsRecordRefusal (refusal_of (names_from file at (Some (state_at Need owner place from)) left)) fault
 
 -- A WALK so far: what is known to be named is what was read, and then what is named from its state on
 pub record WalksNames (file bytes : List ℕ) (at : ℕ) (kind : VersionKind) (owner : ℕ) (end : Option RecordCursorState) (known : Result (List NumberedName) LinkRefusal) (names : List NumberedName)
@@ -151,5 +151,5 @@ pub record WalksNames (file bytes : List ℕ) (at : ℕ) (kind : VersionKind) (o
   pub state : Option RecordCursorState
   pub done : List NumberedName
   pub known_is : known ≡ followed done (names_from file at state left)
-  pub holds : HoldsNames bytes texts (names ++ done)
-  pub next_is : IsNext kind owner end (sh_offset file at) state next
+  pub holds : HoldsVersionNames bytes texts (names ++ done)
+  pub next_is : IsNextRecord kind owner end (sh_offset file at) state next

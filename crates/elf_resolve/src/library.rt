@@ -1,7 +1,7 @@
 //! A shared library of a link: its symbols with their versions, and what its dynamic entries say.
 ghost use Rattle.std.specs.Prelude.{◌≡◌, ◌+◌, ◌*◌, ◌<◌, ◌^◌, List, ℕ};
-ghost use Rattle.elf_resolve.specs.LibraryKeys.{version_word};
-ghost use Rattle.elf_resolve.specs.LibraryTables.{FindsWord, HoldsIndexes, range_of_symbols};
+ghost use Rattle.elf_resolve.specs.LibraryKeys.{version_index_at};
+ghost use Rattle.elf_resolve.specs.LibraryTables.{FindsVersionIndex, HoldsIndexes, range_of_symbols};
 
 use crate::libraries::LibraryList;
 use crate::link_faults::{LinkFault, file_refused};
@@ -280,7 +280,7 @@ impl VersionRows {
     /// `VersionCut` at the section's header if it has none for it.
     pub(crate) fn index(&self, strings: &StringBuffer, symbol: u64) -> Result<u16, LinkFault>
         ensures { (file : List ℕ) (at : ℕ) → HoldsIndexes file strings.now.bytes at self.now →
-            FindsWord (version_word file at symbol) result }
+            FindsVersionIndex (version_index_at file at symbol) result }
     {
         let start = (symbol as usize).saturating_mul(INDEX_BYTES);
         let bytes = part_of(strings.bytes(self.rows), start, INDEX_BYTES);

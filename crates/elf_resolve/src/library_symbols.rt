@@ -7,10 +7,10 @@ ghost use Rattle.elf_model.specs.HeaderTables.{file_sections, first_typed};
 ghost use Rattle.elf_model.specs.Tables.{SYMBOL_SIZE, entry_at};
 ghost use Rattle.elf_model.specs.declared.link_states.LinkRefusal.{LinkRefusal as Refusal};
 ghost use Rattle.elf_record.specs.Sym.{IsSym};
-ghost use Rattle.elf_resolve.specs.LibraryKeys.{LibraryVersions, has_no_version, is_reference, key_names, library_symbol_at, library_symbols};
+ghost use Rattle.elf_resolve.specs.LibraryKeys.{LibraryVersions, has_no_version, is_undefined_at, key_names, library_symbol_at, library_symbols};
 ghost use Rattle.elf_resolve.specs.LibraryNeeds.{key_of_default};
 ghost use Rattle.elf_resolve.specs.LibrarySymbols.{library_role, shared_kind};
-ghost use Rattle.elf_resolve.specs.LibraryTables.{FindsKeyNames, FindsLibrarySymbol, HoldsIndexes, HoldsLibrary, HoldsLibrarySymbol, HoldsLibraryVersions, TakesSymbols};
+ghost use Rattle.elf_resolve.specs.LibraryTables.{FindsKeyNames, FindsLibrarySymbol, HoldsIndexes, HoldsLibrary, HoldsLibrarySymbol, HoldsLibraryVersions, TakesLibrarySymbols};
 ghost use Rattle.elf_resolve.specs.ObjectSymbols.{HoldsSome};
 ghost use Rattle.elf_resolve.specs.ObjectTables.{HoldsSymbols};
 ghost use Rattle.elf_resolve.specs.StringBuffers.{HoldsText, KeptTexts};
@@ -205,7 +205,7 @@ fn has_no_version(symbol: &Sym, word: u16) -> bool
 /// Returns the name of a symbol without its version, if it defines the default one.
 fn default_name(symbol: &Sym, word: u16, name: HeldText) -> Option<HeldText>
     ensures { (file : List ℕ) (at : ℕ) → IsSym file at symbol.now →
-        result ≡ (if not (is_reference file at || is_hidden word) then Some name else None) }
+        result ≡ (if not (is_undefined_at file at || is_hidden word) then Some name else None) }
 {
     if symbol.st_shndx == SHN_UNDEF || is_hidden(word) {
         return None;
@@ -249,7 +249,7 @@ pub(crate) fn take_library_symbols(
     ensures { (file : List ℕ) (known : LibraryVersions) →
         HoldsLibrary file strings.old.bytes tables versions.now known →
         HoldsSectionHeaders file view.now.loaded view.now.store.now →
-        TakesSymbols (library_symbols file known (first_typed (file_sections file) SHT_DYNSYM))
+        TakesLibrarySymbols (library_symbols file known (first_typed (file_sections file) SHT_DYNSYM))
         keys.old keys.new tables.row result }
 {
     let used = strings.used();
@@ -275,7 +275,7 @@ fn take_found(
 ) -> Result<(), LinkFault>
     ensures { (known : Result (List LinkSymbol) Refusal) (at : ℕ) →
         FindsLibrarySymbol known strings.now.bytes at (Ok symbol) →
-        TakesSymbols known keys.old keys.new row result }
+        TakesLibrarySymbols known keys.old keys.new row result }
 {
     match symbol {
         Some(symbol) => take_at(&symbol, strings, keys, marks, row),
@@ -295,7 +295,7 @@ fn take_at(
     row: u32,
 ) -> Result<(), LinkFault>
     ensures { (is : LinkSymbol) → HoldsLibrarySymbol strings.now.bytes symbol.now is →
-        TakesSymbols (Ok (is ∷ [])) keys.old keys.new row result }
+        TakesLibrarySymbols (Ok (is ∷ [])) keys.old keys.new row result }
 {
     match take_symbol(symbol, strings, keys, marks, row) {
         Ok(()) => Ok(()),

@@ -5,7 +5,7 @@ ghost use Rattle.elf_model.specs.declared.versions.VersionKind.TheVariants.{Defi
 ghost use Rattle.elf_resolve.specs.LibraryVersions.{NumberedName, version_names};
 ghost use Rattle.elf_resolve.specs.StringBuffers.{HoldsText};
 ghost use Rattle.elf_resolve.specs.VersionTexts.{text_of_number};
-ghost use Rattle.elf_resolve.specs.VersionWalks.{FindsNumber, HasRoomForNames, HoldsNames, HoldsNoNames, HoldsVersions, IsPlace, ReadsNames, ReadsRecord, ReadsVersions, after_file, state_at};
+ghost use Rattle.elf_resolve.specs.VersionWalks.{FindsNumber, HasRoomForNames, HoldsVersionNames, HoldsNoNames, HoldsVersions, IsRecordPlace, ReadsNames, ReadsVersionRecord, ReadsVersions, after_file, state_at};
 
 use crate::link_faults::{LinkFault, file_refused};
 use crate::string_buffer::{HeldText, StringBuffer};
@@ -91,7 +91,7 @@ impl VersionNames {
         ensures needed { self.new.needed ≡ self.old.needed }
         ensures reads { (file : List ℕ) (at : ℕ) →
             HoldsVersions file strings.now.bytes at table →
-            HoldsNames strings.now.bytes self.old.defined.items [] →
+            HoldsVersionNames strings.now.bytes self.old.defined.items [] →
             ReadsNames (version_names Definition file at) strings.now.bytes
             self.new.defined.items result }
     {
@@ -118,9 +118,9 @@ impl VersionNames {
         ensures needed { self.new.needed ≡ self.old.needed }
         ensures reads { (file : List ℕ) (at start from : ℕ) (names : List NumberedName) →
             HoldsVersions file strings.now.bytes at table →
-            IsPlace (sh_offset file at) start from place →
-            HoldsNames strings.now.bytes self.old.defined.items names →
-            ReadsRecord file strings.now.bytes at (state_at Definition 0 start from) names
+            IsRecordPlace (sh_offset file at) start from place →
+            HoldsVersionNames strings.now.bytes self.old.defined.items names →
+            ReadsVersionRecord file strings.now.bytes at (state_at Definition 0 start from) names
             self.new.defined.items None result }
     {
         let record = record_at(strings, table, place, DEFINITION_BYTES)?;
@@ -144,7 +144,7 @@ impl VersionNames {
         ensures defined { self.new.defined ≡ self.old.defined }
         ensures reads { (file : List ℕ) (at : ℕ) →
             HoldsVersions file strings.now.bytes at table →
-            HoldsNames strings.now.bytes self.old.needed.items [] →
+            HoldsVersionNames strings.now.bytes self.old.needed.items [] →
             ReadsNames (version_names File file at) strings.now.bytes self.new.needed.items
             result }
     {
@@ -181,8 +181,8 @@ impl VersionNames {
         ensures fewer { IfOk result (λ rest. rest ≤ left) }
         ensures reads { (file : List ℕ) (at owner start from : ℕ) (names : List NumberedName) →
             HoldsVersions file strings.now.bytes at table →
-            IsPlace (sh_offset file at) start from first →
-            HoldsNames strings.now.bytes self.old.needed.items names →
+            IsRecordPlace (sh_offset file at) start from first →
+            HoldsVersionNames strings.now.bytes self.old.needed.items names →
             ReadsVersions file strings.now.bytes at owner start from left names
             self.new.needed.items result }
     {
@@ -210,9 +210,9 @@ impl VersionNames {
         ensures defined { self.new.defined ≡ self.old.defined }
         ensures reads { (file : List ℕ) (at owner start from : ℕ) (names : List NumberedName) →
             HoldsVersions file strings.now.bytes at table →
-            IsPlace (sh_offset file at) start from place →
-            HoldsNames strings.now.bytes self.old.needed.items names →
-            ReadsRecord file strings.now.bytes at (state_at Need owner start from) names
+            IsRecordPlace (sh_offset file at) start from place →
+            HoldsVersionNames strings.now.bytes self.old.needed.items names →
+            ReadsVersionRecord file strings.now.bytes at (state_at Need owner start from) names
             self.new.needed.items (after_file file at owner) result }
     {
         let record = bytes_at(strings, table, place, NEED_BYTES)?;
@@ -258,8 +258,8 @@ fn name_in(names: &[Option<HeldText>], number: u16) -> Option<HeldText>
 /// the library.
 fn set_defined(names: &mut [Option<HeldText>], flags: u16, number: u16, name: HeldText)
     ensures { (bytes : List ℕ) (known : List NumberedName) (is : List ℕ) →
-        number < MOST_VERSIONS → HoldsNames bytes names.old known → HoldsText bytes name is →
-        HoldsNames bytes names.new (known ++
+        number < MOST_VERSIONS → HoldsVersionNames bytes names.old known → HoldsText bytes name is →
+        HoldsVersionNames bytes names.new (known ++
         (if bit_and flags 1 == 0 then record { number = number; name = is } ∷ [] else [])) }
 {
     if flags & VER_FLG_BASE == 0 {
@@ -270,8 +270,8 @@ fn set_defined(names: &mut [Option<HeldText>], flags: u16, number: u16, name: He
 /// Sets the name of a version index, unless it has one.
 fn set_name(names: &mut [Option<HeldText>], number: u16, name: HeldText)
     ensures { (bytes : List ℕ) (known : List NumberedName) (is : List ℕ) →
-        number < MOST_VERSIONS → HoldsNames bytes names.old known → HoldsText bytes name is →
-        HoldsNames bytes names.new (known ++ record { number = number; name = is } ∷ []) }
+        number < MOST_VERSIONS → HoldsVersionNames bytes names.old known → HoldsText bytes name is →
+        HoldsVersionNames bytes names.new (known ++ record { number = number; name = is } ∷ []) }
 {
     let place = number as usize;
     if place < names.len() && names[place].is_none() {

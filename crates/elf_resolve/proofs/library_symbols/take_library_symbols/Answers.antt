@@ -6,7 +6,7 @@ use Rattle.elf_model.specs.Records.{section_at}
 use Rattle.elf_model.specs.Tables.{SYMBOL_SIZE, entry_at}
 use Rattle.elf_resolve.specs.KeyTables.{KeyList}
 use Rattle.elf_resolve.specs.LibraryKeys.{library_symbol_at}
-use Rattle.elf_resolve.specs.LibraryTables.{HoldsLibraryVersions, TakesSymbols, TookLibraryRows, range_of_symbols}
+use Rattle.elf_resolve.specs.LibraryTables.{HoldsLibraryVersions, TakesLibrarySymbols, TookLibraryRows, range_of_symbols}
 use Rattle.elf_resolve.specs.ObjectTables.{HoldsSymbols}
 use Rattle.elf_resolve.specs.StringBuffers.{TableTexts}
 use Rattle.elf_resolve.proofs.LibraryTakenLaws.{forgotten, library_rows_all, library_rows_fault, library_rows_more, library_rows_none, library_taken, takes_none}
@@ -84,4 +84,4 @@ returns c = λ file known held view.
     let past = subst (λ n. n ≤ c.loop-index.index) (ap (λ (r : ℕ × ℕ). r.1) range) c.loop-index-test.false in
     library_rows_all file known at symbols.first c.loop-index.index symbols.count c.args.keys.now c.loop-index.keys c.args.tables.row past
     (c.loop-index.invariant.takes file at symbols known some dynamic.holds held.versions_are view))
-    (λ none. subst (λ (k : KeyList). TakesSymbols (Ok []) c.args.keys.now k c.args.tables.row (Ok tt)) (sym (c.loop-index.invariant.none none)) (takes_none (Ok []) c.args.keys.now c.args.tables.row refl))
+    (λ none. subst (λ (k : KeyList). TakesLibrarySymbols (Ok []) c.args.keys.now k c.args.tables.row (Ok tt)) (sym (c.loop-index.invariant.none none)) (takes_none (Ok []) c.args.keys.now c.args.tables.row refl))

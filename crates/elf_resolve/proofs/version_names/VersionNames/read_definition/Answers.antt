@@ -5,7 +5,7 @@ use Rattle.std.proofs.lemmas.Result.{err_from_is_err_and}
 use Rattle.elf_model.specs.Records.{sh_offset, vd_aux}
 use Rattle.elf_model.specs.Tables.{section_bytes, strings_of}
 use Rattle.elf_model.specs.Versions.{number_in}
-use Rattle.elf_resolve.specs.VersionWalks.{HoldsNames}
+use Rattle.elf_resolve.specs.VersionWalks.{HoldsVersionNames}
 use Rattle.elf_resolve.specs.declared.string_buffer.HeldText.{HeldText}
 use Rattle.elf_resolve.proofs.VersionDefinitionLaws.{definition_cut, definition_large, definition_named, definition_next, definition_read, definition_refused, definition_unnamed, name_place}
 use Rattle.elf_resolve.proofs.VersionNameLaws.{names_written}
@@ -69,8 +69,8 @@ returns-clause-reads c = λ file at p from names held is known.
     let text = c.in_ok-text.ensures (strings_of file at) held.strings in
     let flags = c.half-2.ensures (omega (arith, c.in_ok-record.ensures.long)) ∙ record_field file c.in_ok-record.record.now at p 20 2 2 c.args.place one.inside found.0.1 (omega arith) in
     let distance = c.long-3.ensures (omega (arith, c.in_ok-record.ensures.long)) ∙ record_field file c.in_ok-record.record.now at p 20 16 4 c.args.place one.inside found.0.1 (omega arith) in
-    let before = subst (λ (t : List (Option HeldText)). HoldsNames c.args.strings.now.bytes t names) (sym c.deref_mut.ensures.value) known in
-    let set = subst (λ n. HoldsNames c.args.strings.now.bytes c.set_defined.new.names (names ++ (if bit_and c.half-2.result 1 == 0 then record { number = n; name = text.0 } ∷ [] else []))) c.in_ok-number.ensures.0
+    let before = subst (λ (t : List (Option HeldText)). HoldsVersionNames c.args.strings.now.bytes t names) (sym c.deref_mut.ensures.value) known in
+    let set = subst (λ n. HoldsVersionNames c.args.strings.now.bytes c.set_defined.new.names (names ++ (if bit_and c.half-2.result 1 == 0 then record { number = n; name = text.0 } ∷ [] else []))) c.in_ok-number.ensures.0
     (c.set_defined.ensures c.args.strings.now.bytes names text.0 c.in_ok-number.ensures.1 before text.2) in (
       if bit_and c.half-2.result 1 == 0 then record { number = number_in c.half.result; name = text.0 } ∷ [] else [],
       definition_named file c.in_ok-bytes.bytes.now at p from c.half.result c.half-2.result c.from.result text.0 c.args.place c.place_after-name.result one small flags inside part.1 index text.1,

@@ -6,7 +6,7 @@ use Rattle.elf_model.specs.Records.{sh_offset, vn_aux}
 use Rattle.elf_model.specs.Tables.{section_bytes}
 use Rattle.elf_model.specs.declared.versions.VersionKind.TheVariants.{File, Need}
 use Rattle.elf_resolve.specs.LibraryVersions.{version_names}
-use Rattle.elf_resolve.specs.VersionWalks.{IsPlace, PassesAll, names_from, state_at}
+use Rattle.elf_resolve.specs.VersionWalks.{IsRecordPlace, PassesAll, names_from, state_at}
 use Rattle.elf_resolve.specs.declared.version_records.RecordPlace.{RecordPlace}
 use Rattle.elf_resolve.proofs.VersionPlaceLaws.{along_place, place_inside, record_field}
 use Rattle.elf_resolve.proofs.VersionWalkLaws.{ended, file_more, file_refused, file_step, versions_refused, walk_end, walk_fault, walk_first, walk_here}
@@ -48,7 +48,7 @@ returns-in_err-left-clause-reads c = λ file at held none.
     let found = c.in_ok-record.ensures.finds (section_bytes file at) held.records (omega arith) in
     let inside = place_inside file bytes at p walk.next_is.1 16 c.args.table c.in-Some.place held walk.next_is.3 (omega arith) found.0.0 in
     let aux = c.long.ensures (omega (arith, c.in_ok-record.ensures.long)) ∙ record_field file c.in_ok-record.record.now at p 16 8 4 c.in-Some.place inside found.0.1 (omega arith) in
-    let inner : IsPlace (sh_offset file at) (p + vn_aux file (sh_offset file at + p)) (sh_offset file at + p) c.place_after-inner.result =
+    let inner : IsRecordPlace (sh_offset file at) (p + vn_aux file (sh_offset file at + p)) (sh_offset file at + p) c.place_after-inner.result =
     rw (c.place_after-inner.ensures, aux) (along_place file at p 16 (vn_aux file (sh_offset file at + p)) c.in-Some.place inside) in
     let step = file_step file bytes c.in_ok-record.record.now at p walk.next_is.1 rest known c.loop.self.needed.items c.in-Some.place walk refl refl inside found.0.1 found.1 in
     let e = err_from_is_err_and c.from_residual-in_err-left.result c.from_residual-in_err-left.ensures.1 in
@@ -70,7 +70,7 @@ loop-preserved c = record {
       let found = c.in_ok-record.ensures.finds (section_bytes file at) held.records (omega arith) in
       let inside = place_inside file bytes at p walk.next_is.1 16 c.args.table c.in-Some.place held walk.next_is.3 (omega arith) found.0.0 in
       let aux = c.long.ensures (omega (arith, c.in_ok-record.ensures.long)) ∙ record_field file c.in_ok-record.record.now at p 16 8 4 c.in-Some.place inside found.0.1 (omega arith) in
-      let inner : IsPlace (sh_offset file at) (p + vn_aux file (sh_offset file at + p)) (sh_offset file at + p) c.place_after-inner.result =
+      let inner : IsRecordPlace (sh_offset file at) (p + vn_aux file (sh_offset file at + p)) (sh_offset file at + p) c.place_after-inner.result =
       rw (c.place_after-inner.ensures, aux) (along_place file at p 16 (vn_aux file (sh_offset file at + p)) c.in-Some.place inside) in
       let step = file_step file bytes c.in_ok-record.record.now at p walk.next_is.1 rest known c.loop.self.needed.items c.in-Some.place walk refl refl inside found.0.1 found.1 in
       let far = c.long-in-loop.ensures (omega (arith, c.in_ok-record.ensures.long)) ∙ record_field file c.in_ok-record.record.now at p 16 12 4 c.in-Some.place inside found.0.1 (omega arith) in

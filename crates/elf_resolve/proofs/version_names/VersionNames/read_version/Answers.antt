@@ -4,7 +4,7 @@ use Rattle.std.specs.Prelude.{Option}
 use Rattle.std.proofs.lemmas.Result.{err_from_is_err_and}
 use Rattle.elf_model.specs.Tables.{section_bytes, strings_of}
 use Rattle.elf_model.specs.Versions.{number_in}
-use Rattle.elf_resolve.specs.VersionWalks.{HoldsNames}
+use Rattle.elf_resolve.specs.VersionWalks.{HoldsVersionNames}
 use Rattle.elf_resolve.specs.declared.string_buffer.HeldText.{HeldText}
 use Rattle.elf_resolve.proofs.VersionNameLaws.{names_written}
 use Rattle.elf_resolve.proofs.VersionNeedLaws.{need_cut, need_large, need_named, need_next, need_unnamed}
@@ -47,8 +47,8 @@ returns-clause-reads c = λ file at owner p from names held is known.
     let distance = c.long-2.ensures (omega (arith, c.in_ok-record.ensures.long)) ∙ record_field file record_bytes at p 16 12 4 c.args.place inside found.1 (omega arith) in
     let text = c.in_ok-text.ensures (strings_of file at) held.strings in
     let small = subst (λ n. n < 1024) c.in_ok-number.ensures.0 c.in_ok-number.ensures.1 in
-    let before = subst (λ (t : List (Option HeldText)). HoldsNames c.args.strings.now.bytes t names) (sym c.deref_mut.ensures.value) known in
-    let set = subst (λ n. HoldsNames c.args.strings.now.bytes c.set_name.new.names (names ++ record { number = n; name = text.0 } ∷ [])) c.in_ok-number.ensures.0
+    let before = subst (λ (t : List (Option HeldText)). HoldsVersionNames c.args.strings.now.bytes t names) (sym c.deref_mut.ensures.value) known in
+    let set = subst (λ n. HoldsVersionNames c.args.strings.now.bytes c.set_name.new.names (names ++ record { number = n; name = text.0 } ∷ [])) c.in_ok-number.ensures.0
     (c.set_name.ensures c.args.strings.now.bytes names text.0 c.in_ok-number.ensures.1 before text.2) in (
       record { number = number_in c.half.result; name = text.0 } ∷ [],
       need_named file at owner p from c.half.result c.from.result text.0 c.args.place inside word small index text.1,
