@@ -93,11 +93,17 @@ class Jobs(Counts):
                     self.compare(f"{by_object} reference of an object, {by_library} of a library, {first}, {between}: {words}", files, words)
 
     def default_versions(self):
-        """A key for each pair of symbols of two objects and one of a library between them, with a version, a default one or none."""
+        """A key for each pair of symbols of two objects and one of a library between them, with a version, a default one or none. Then
+        each symbol of an object before each of a library that is taken as needed."""
         own = [(name, sort) for name in (b"%s", b"%s@V1", b"%s@@V1")
                for sort in ("reference", "weak reference", "common of 4", "weak definition", "definition")]
         shared = [(name, symbol) for name in (b"%s", b"%s@V1", b"%s@@V1")
                   for symbol in ((TEXT, 1, FUNC), (TEXT, WEAK, FUNC), (DATA, 1, OBJECT), (BSS, 1, OBJECT), (UNDEF, 1, 0))]
+
+        def of_library(library, key):
+            name, (section, binding, kind) = library
+            return Symbol((name if section else name.replace(b"@@", b"@")) % key, section, binding, kind, 0, 8 if section else 0)
+
         chosen = list(itertools.product(own, shared, own))
         for order in itertools.permutations((b"a.o", b"l.so", b"b.o")):
             for begin in range(0, len(chosen), 300):
@@ -106,12 +112,14 @@ class Jobs(Counts):
                     key = b"k%d" % number
                     files[b"a.o"].append(SORTS[first[1]](first[0] % key))
                     files[b"b.o"].append(SORTS[last[1]](last[0] % key))
-                    section, binding, kind = library[1]
-                    name = (library[0] if section else library[0].replace(b"@@", b"@")) % key
-                    files[b"l.so"].append(Symbol(name, section, binding, kind, 0, 8 if section else 0))
+                    files[b"l.so"].append(of_library(library, key))
                 written = {name: relocatable(files[name]) for name in (b"a.o", b"b.o")}
                 written[b"l.so"] = shared_library(files[b"l.so"], b"l.so", (), [b"V1"], [b"V1"])
                 self.compare(f"versions from {begin} on of {order}", written, [b"-e", b"0", *order])
+        for (name, sort), library in itertools.product(own, shared):
+            files = {b"a.o": relocatable([SORTS[sort](name % b"f")]),
+                     b"l.so": shared_library([of_library(library, b"f")], b"l.so", (), [b"V1"], [b"V1"])}
+            self.compare(f"{sort} of {name} and {library} as needed", files, [b"-e", b"0", b"a.o", b"--as-needed", b"l.so"])
 
     def rounds(self):
         """Groups that are begun again: each input needs one that may be before it, and the last a library that is taken as needed."""
