@@ -8,8 +8,8 @@ Without PROGRAM ./build makes it. --quick takes 150 jobs and 150 copies, instead
 references, commons, weak, absolute and unique definitions, visibilities, versions, groups of which one is kept, archives
 with an index of either size, whole archives and groups within groups; as many have shared libraries for the most part, also
 after `--as-needed`. One job has a key for each order of three kinds of symbols, others for each pair of symbols of objects and
-one of a shared library, with versions or without. Libraries name others as needed in all ways, and groups are begun again
-in all orders of their inputs. With `--problems` only the lines come that make the status 1, and those of the files that they name; of a link that
+one of a shared library, with versions or without. Libraries need one another in each combination, and groups are begun
+again with their inputs in each order. With `--problems` only the lines come that make the status 1, and those of the files that they name; of a link that
 is refused the refusal, and the files that are missing or refused. In each copy some bytes of one file differ: of its headers,
 its tables, its index. Then come archives that are malformed, limits at their edges, roots that libraries and the paths of
 scripts are below, and budgets of all sizes. The last line is `N passed, N failed`, and the status is 0 only if none failed
