@@ -55,6 +55,7 @@ pub mod ResolvedLaws
 pub mod ReadBudgetLaws
 pub mod TakenMemberLaws
 pub mod TakenLaws
+pub mod TakenLibraryLaws
 pub mod NamedRowLaws
 pub mod StepLaws
 pub mod OwnKeyLaws
@@ -70,6 +71,10 @@ pub mod StopMemberLaws
 pub mod LinkEndLaws
 pub mod MarkedRowLaws
 pub mod KeyMarkLaws
+pub mod LibraryEntryLaws
+pub mod LibraryFileLaws
+pub mod LibraryNeedLaws
+pub mod LibraryReadLaws
 pub mod ProblemLineLaws
 pub mod VersionPlaceLaws
 pub mod VersionNeedLaws

@@ -29,7 +29,7 @@ use Rattle.elf_resolve.specs.declared.library.VersionRows.{VersionRows}
 use Rattle.elf_resolve.specs.declared.link_faults.LinkFault.{LinkFault}
 use Rattle.elf_resolve.specs.declared.link_faults.LinkFault.TheVariants as fault
 use Rattle.elf_resolve.specs.declared.string_buffer.HeldText.{HeldText}
-use Rattle.elf_resolve.specs.declared.version_names.VersionNames.{VersionNames}
+use Rattle.elf_resolve.specs.declared.version_room.VersionNames.{VersionNames}
 use Rattle.elf_resolve.proofs.StringBufferLaws.{held_size, holds_joined, holds_kept}
 use Rattle.elf_resolve.proofs.VersionPlaceLaws.{lt_true, part_field}
 

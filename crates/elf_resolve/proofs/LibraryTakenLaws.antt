@@ -31,7 +31,7 @@ forgotten old now new used same size kept =
     ap (λ (b : List ℕ). record new { bytes = b }) first ∙ ap (λ m. record { bytes = old.bytes; most = m }) most
 
 -- THE ROWS of a table, one after the other
-library_next : (file : List ℕ) (versions : LibraryVersions) (table_at index count : ℕ) → index < count
+pub library_next : (file : List ℕ) (versions : LibraryVersions) (table_at index count : ℕ) → index < count
     → library_symbols_from file versions table_at index (count - index) ≡ and_then (library_symbol_at file versions table_at index) (library_symbols_from file versions table_at (index + 1) (count - (index + 1)))
 unfolding library_symbols_from
 library_next file versions table_at index count below =
@@ -69,7 +69,7 @@ library_rows_fault file versions table_at first index count old now row fault be
     followed_fault (library_symbols_from file versions table_at first (count - first)) (library_symbols_from file versions table_at index (count - index)) (library_symbol_at file versions table_at index)
     (library_symbols_from file versions table_at (index + 1) (count - (index + 1))) before.0 fault before.1 (library_next file versions table_at index count below) is
 
-library_rows_end : (file : List ℕ) (versions : LibraryVersions) (table_at index count : ℕ) → count ≤ index → library_symbols_from file versions table_at index (count - index) ≡ Ok []
+pub library_rows_end : (file : List ℕ) (versions : LibraryVersions) (table_at index count : ℕ) → count ≤ index → library_symbols_from file versions table_at index (count - index) ≡ Ok []
 unfolding library_symbols_from
 library_rows_end file versions table_at index count past =
     let none : count - index ≡ 0 = omega arith in
@@ -84,17 +84,21 @@ library_rows_all file versions table_at first index count old now row past befor
 )
 
 -- THE SYMBOLS OF A LIBRARY are those of its table, or none
-pub library_taken : (file bytes : List ℕ) (versions : LibraryVersions) (table : Option SymbolRows) (old new : KeyList) (row : ℕ) (result : Result (Unit {0}) LinkFault) → HoldsSomeSymbols file bytes table
-    → ((symbols : SymbolRows) → table ≡ Some symbols → HoldsDynamicSymbols file bytes symbols
-    → TakesLibrarySymbols (library_symbols_from file versions (section_at file symbols.section) symbols.first (symbols.count - symbols.first)) old new row result)
-    → (table ≡ None → TakesLibrarySymbols (Ok []) old new row result)
-    → TakesLibrarySymbols (library_symbols file versions (first_typed (file_sections file) SHT_DYNSYM)) old new row result
-library_taken file bytes versions None old new row result held some none =
-    subst (λ (k : Result (List LinkSymbol) LinkRefusal). TakesLibrarySymbols k old new row result) (sym (ap (library_symbols file versions) held)) (none refl)
-library_taken file bytes versions (Some symbols) old new row result held some none =
+pub library_known : (file bytes : List ℕ) (versions : LibraryVersions) (table : Option SymbolRows) (P : Result (List LinkSymbol) LinkRefusal → Type 0) → HoldsSomeSymbols file bytes table
+    → ((symbols : SymbolRows) → table ≡ Some symbols → HoldsDynamicSymbols file bytes symbols → P (library_symbols_from file versions (section_at file symbols.section) symbols.first (symbols.count - symbols.first)))
+    → (table ≡ None → P (Ok [])) → P (library_symbols file versions (first_typed (file_sections file) SHT_DYNSYM))
+library_known file bytes versions None P held some none = subst P (sym (ap (library_symbols file versions) held)) (none refl)
+library_known file bytes versions (Some symbols) P held some none =
     let at = section_at file symbols.section in
     let same : library_symbols_from file versions at symbols.first (symbols.count - symbols.first) ≡ library_symbols file versions (first_typed (file_sections file) SHT_DYNSYM) =
     ap (λ c. library_symbols_from file versions at symbols.first (c - symbols.first)) held.holds.count
     ∙ ap (λ f. library_symbols_from file versions at f (entry_count file at SYMBOL_SIZE - f)) held.first
     ∙ ap (library_symbols file versions) (sym held.table) in
-    subst (λ (k : Result (List LinkSymbol) LinkRefusal). TakesLibrarySymbols k old new row result) same (some symbols refl held)
+    subst P same (some symbols refl held)
+
+pub library_taken : (file bytes : List ℕ) (versions : LibraryVersions) (table : Option SymbolRows) (old new : KeyList) (row : ℕ) (result : Result (Unit {0}) LinkFault) → HoldsSomeSymbols file bytes table
+    → ((symbols : SymbolRows) → table ≡ Some symbols → HoldsDynamicSymbols file bytes symbols
+    → TakesLibrarySymbols (library_symbols_from file versions (section_at file symbols.section) symbols.first (symbols.count - symbols.first)) old new row result)
+    → (table ≡ None → TakesLibrarySymbols (Ok []) old new row result)
+    → TakesLibrarySymbols (library_symbols file versions (first_typed (file_sections file) SHT_DYNSYM)) old new row result
+library_taken file bytes versions table old new row result held some none = library_known file bytes versions table (λ known. TakesLibrarySymbols known old new row result) held some none

@@ -70,7 +70,7 @@ below_slots-other headers count other some = grind (arith, nat_tests)
 early_same : (e : HeaderCounts) (size headers slots : ℕ) → nat_lt slots e.shnum ≡ nat_lt headers e.shnum → nat_lt slots e.phnum ≡ nat_lt headers e.phnum → early_checks_of e size slots ≡ early_checks_of e size headers
 early_same e size headers slots sections segments = rw (sections, segments) refl
 
-load_same : (file : List ℕ) (headers slots : ℕ) → 1 ≤ headers → slots ≡ slots_of headers (e_shnum file) (e_phnum file) → first_refusal (load_checks file slots) ≡ first_refusal (load_checks file headers)
+pub load_same : (file : List ℕ) (headers slots : ℕ) → 1 ≤ headers → slots ≡ slots_of headers (e_shnum file) (e_phnum file) → first_refusal (load_checks file slots) ≡ first_refusal (load_checks file headers)
 load_same file headers slots some is =
     let sections : nat_lt slots (e_shnum file) ≡ nat_lt headers (e_shnum file) = ap (λ n. nat_lt n (e_shnum file)) is ∙ below_slots headers (e_shnum file) (e_phnum file) some in
     let segments : nat_lt slots (e_phnum file) ≡ nat_lt headers (e_phnum file) = ap (λ n. nat_lt n (e_phnum file)) is ∙ below_slots-other headers (e_phnum file) (e_shnum file) some in

@@ -17,6 +17,7 @@ pub mod Ranges
 pub mod Lines
 pub mod StringBuffers
 pub mod Taken
+pub mod TakenLibraries
 pub mod Resolved
 pub mod ObjectTables
 pub mod KeyChains
@@ -56,4 +57,6 @@ pub mod KeyMarks
 pub mod LibraryNeeds
 pub mod SearchStops
 pub mod EndsAtRefusal
+pub mod LibraryEntries
+pub mod LibraryFiles
 pub mod ReadBudgets

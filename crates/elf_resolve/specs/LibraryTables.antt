@@ -23,7 +23,7 @@ use Rattle.elf_resolve.specs.declared.library_symbols.LibrarySymbol.{LibrarySymb
 use Rattle.elf_resolve.specs.declared.link_faults.LinkFault.{LinkFault}
 use Rattle.elf_resolve.specs.declared.object.SymbolRows.{SymbolRows}
 use Rattle.elf_resolve.specs.declared.string_buffer.HeldText.{HeldText}
-use Rattle.elf_resolve.specs.declared.version_names.VersionNames.{VersionNames}
+use Rattle.elf_resolve.specs.declared.version_room.VersionNames.{VersionNames}
 
 -- the index of the first symbol of a table that is not local, and that after the last
 abbrev pub range_of_symbols : Option SymbolRows → ℕ × ℕ

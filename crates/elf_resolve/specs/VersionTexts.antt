@@ -1,7 +1,7 @@
 -- The names of the versions of a shared library, by their indexes.
 use Rattle.std.specs.Prelude.{ℕ, nat_lt, if◌then◌else◌, Bool, true, false, List, Option, None, Some, slice_index_or}
 use Rattle.elf_resolve.specs.declared.string_buffer.HeldText.{HeldText}
-use Rattle.elf_resolve.specs.declared.version_names.VersionNames.{VersionNames}
+use Rattle.elf_resolve.specs.declared.version_room.VersionNames.{VersionNames}
 
 -- the name of an index, if it has one
 abbrev pub text_of_number : List (Option HeldText) → (number : ℕ) → Option HeldText

@@ -22,7 +22,7 @@ use Rattle.elf_resolve.specs.declared.link_faults.LinkFault.{LinkFault}
 use Rattle.elf_resolve.specs.declared.link_faults.LinkFault.TheVariants.{Refused, Read, Open, Memory}
 use Rattle.elf_resolve.specs.declared.string_buffer.HeldText.{HeldText}
 use Rattle.elf_resolve.specs.declared.version_records.RecordPlace.{RecordPlace}
-use Rattle.elf_resolve.specs.declared.version_names.VersionNames.{VersionNames}
+use Rattle.elf_resolve.specs.declared.version_room.VersionNames.{VersionNames}
 use Rattle.elf_resolve.specs.declared.version_records.VersionSection.{VersionSection}
 
 -- A SECTION OF VERSION RECORDS and its strings are in a buffer; its header is at an offset
@@ -39,11 +39,7 @@ pub record HoldsVersionNames (bytes : List ℕ) (texts : List (Option HeldText))
   pub room : length texts ≡ VERSION_NUMBERS
   pub names_are : (number : ℕ) → HoldsSome bytes (text_of_number texts number) (name_of_number names number)
 
--- there is room for a name of each index, and no index has one, whatever the buffer
-pub record HasRoomForNames (versions : VersionNames) : Type 0 where
-  pub defined : length versions.defined.items ≡ VERSION_NUMBERS
-  pub needed : length versions.needed.items ≡ VERSION_NUMBERS
-
+-- no index has a name, for any bytes of a buffer
 pub record HoldsNoNames (versions : VersionNames) : Type 0 where
   pub defined : (bytes : List ℕ) → HoldsVersionNames bytes versions.defined.items []
   pub needed : (bytes : List ℕ) → HoldsVersionNames bytes versions.needed.items []

@@ -1,5 +1,15 @@
 //! A shared library that is read: its name, and whether it is needed.
-ghost use Rattle.std.specs.Prelude.{◌≡◌};
+ghost use Rattle.std.specs.Prelude.{◌≡◌, IfErr, IfOk, List, ℕ, None, Ok, Option, Some};
+ghost use Rattle.elf_model.specs.HeaderTables.{file_sections, first_typed};
+ghost use Rattle.elf_model.specs.Numbers.{SHT_DYNSYM};
+ghost use Rattle.elf_resolve.specs.LibraryEntries.{FindsOwnName};
+ghost use Rattle.elf_resolve.specs.LibraryFiles.{HoldsSomeDynamic, ReadsLibrary};
+ghost use Rattle.elf_resolve.specs.LibraryKeys.{LibraryVersions, library_symbols};
+ghost use Rattle.elf_resolve.specs.LibraryTables.{HoldsLibrary};
+ghost use Rattle.elf_resolve.specs.Taken.{IsLinkFault};
+ghost use Rattle.elf_resolve.specs.TakenLibraries.{AsksFor, NamesLibrary, TakesLibrary, known_library, new_library, new_symbols, own_name_in};
+ghost use Rattle.elf_source.specs.Prelude.{KeepsSource};
+ghost use Rattle.elf_table.specs.Load.{HoldsSectionHeaders};
 
 use crate::libraries::{LibraryList, LinkLibrary};
 use crate::library::{DynamicRows, LibraryTables, read_library};
@@ -25,7 +35,12 @@ pub(crate) fn read_library_tables<S: Source>(
     room: &mut TableRoom,
     row: u32,
 ) -> Result<LibraryTables, LinkFault>
+    ensures keeps { KeepsSource src.old.seen src.new.seen }
     ensures most { src.new.most ≡ src.old.most }
+    ensures marks { room.new.marks ≡ room.old.marks }
+    ensures reads { (file : List ℕ) → src.old.seen.file ≡ Some file →
+        HoldsSectionHeaders file view.now.loaded view.now.store.now →
+        ReadsLibrary file room.new.strings.bytes row room.new.versions result }
 {
     read_library(src, view, &mut room.strings, &mut room.versions, row)
 }
@@ -41,7 +56,12 @@ pub(crate) fn open_library<S: Source>(
     libraries: &mut LibraryList,
     opened: NewLibrary<'_>,
 ) -> Result<LibraryEnd, LinkFault>
+    ensures keeps { KeepsSource src.old.seen src.new.seen }
     ensures most { src.new.most ≡ src.old.most }
+    ensures headers { room.new.headers ≡ room.old.headers }
+    ensures takes { (file : List ℕ) → src.old.seen.file ≡ Some file →
+        TakesLibrary (new_library file room.old.headers) keys.old keys.new room.old.tables.marks
+        opened.entry.row result }
 {
     let head = linked_header(src, ET_DYN)?;
     let slots = slots_for(room.headers, &head);
@@ -67,7 +87,11 @@ fn add_library<S: Source>(
     libraries: &mut LibraryList,
     opened: NewLibrary<'_>,
 ) -> Result<LibraryEnd, LinkFault>
+    ensures keeps { KeepsSource src.old.seen src.new.seen }
     ensures most { src.new.most ≡ src.old.most }
+    ensures takes { (file : List ℕ) → src.old.seen.file ≡ Some file →
+        HoldsSectionHeaders file view.now.loaded view.now.store.now →
+        TakesLibrary (new_symbols file) keys.old keys.new room.old.marks opened.entry.row result }
 {
     let tables = read_library_tables(src, view, room, opened.row)?;
     let dynamic = tables.dynamic;
@@ -94,7 +118,11 @@ fn add_needed(
     dynamic: Option<DynamicRows>,
     strings: &StringBuffer,
     libraries: &mut LibraryList,
-) -> Result<(), LinkFault> {
+) -> Result<(), LinkFault>
+    ensures { (file : List ℕ) (header : Option ℕ) (own : Option (List ℕ)) →
+        HoldsSomeDynamic file strings.now.bytes header dynamic →
+        own_name_in file header ≡ Ok own → IfErr result (IsLinkFault None) }
+{
     match dynamic {
         Some(dynamic) => dynamic.add_needed(strings, libraries),
         None => Ok(()),
@@ -112,7 +140,12 @@ pub(crate) fn reopen_library<S: Source>(
     libraries: &mut LibraryList,
     known: (usize, u32),
 ) -> Result<LibraryEnd, LinkFault>
+    ensures keeps { KeepsSource src.old.seen src.new.seen }
     ensures most { src.new.most ≡ src.old.most }
+    ensures headers { room.new.headers ≡ room.old.headers }
+    ensures takes { (file : List ℕ) → src.old.seen.file ≡ Some file →
+        TakesLibrary (known_library file room.old.headers) keys.old keys.new room.old.tables.marks
+        known.1 result }
 {
     let (library, row) = known;
     let head = linked_header(src, ET_DYN)?;
@@ -137,14 +170,32 @@ fn library_name(
     strings: &StringBuffer,
     libraries: &mut LibraryList,
     path: &[u8],
-) -> Result<HeldText, LinkFault> {
-    let soname = match dynamic {
-        Some(dynamic) => dynamic.soname(strings)?,
-        None => None,
-    };
-    match soname {
+) -> Result<HeldText, LinkFault>
+    ensures { (file : List ℕ) (header : Option ℕ) →
+        HoldsSomeDynamic file strings.now.bytes header dynamic →
+        NamesLibrary (own_name_in file header) result }
+{
+    match own_name_of(dynamic, strings)? {
         Some(name) => libraries.keep(strings.bytes(name), 0),
         None => libraries.keep(path, 0),
+    }
+}
+
+/// Returns the library's own name, if its dynamic entries give one.
+///
+/// # Errors
+/// Those of the name, at its entry.
+fn own_name_of(
+    dynamic: Option<DynamicRows>,
+    strings: &StringBuffer,
+) -> Result<Option<HeldText>, LinkFault>
+    ensures { (file : List ℕ) (header : Option ℕ) →
+        HoldsSomeDynamic file strings.now.bytes header dynamic →
+        FindsOwnName (own_name_in file header) strings.now.bytes result }
+{
+    match dynamic {
+        Some(dynamic) => dynamic.soname(strings),
+        None => Ok(None),
     }
 }
 
@@ -159,14 +210,18 @@ fn ask_library(
     keys: &mut KeyTable<'_>,
     libraries: &mut LibraryList,
     library: usize,
-) -> Result<LibraryEnd, LinkFault> {
+) -> Result<LibraryEnd, LinkFault>
+    ensures { (file : List ℕ) (known : LibraryVersions) →
+        HoldsLibrary file room.old.strings.bytes tables room.old.versions known →
+        HoldsSectionHeaders file view.now.loaded view.now.store.now →
+        TakesLibrary (library_symbols file known (first_typed (file_sections file) SHT_DYNSYM))
+        keys.old keys.new room.old.marks tables.row result }
+{
     let Some(known) = libraries.get(library) else {
-        return Ok(LibraryEnd::Taken);
+        return Ok(LibraryEnd::Same);
     };
-    if known.as_needed {
-        if !is_asked_for(view, tables, room, keys, libraries, known.name)? {
-            return Ok(LibraryEnd::Unneeded(library));
-        }
+    if !is_asked_for(view, tables, room, keys, libraries, known)? {
+        return Ok(LibraryEnd::Unneeded(library));
     }
     libraries.take(library);
     take_library_symbols(
@@ -180,23 +235,35 @@ fn ask_library(
     Ok(LibraryEnd::Taken)
 }
 
-/// Returns `true` if an object needs a symbol of a library of a name, or a library does that does
-/// not name it as needed.
+/// Returns `true` if a library is taken in any case, if an object needs a symbol of it, or if a
+/// library does that does not name it as needed.
 ///
 /// # Errors
-/// The first fault of a symbol.
+/// The first fault of a symbol; there is no room for a name.
 fn is_asked_for(
     view: &SectionView<'_>,
     tables: LibraryTables,
     room: &mut TableRoom,
     keys: &KeyTable<'_>,
     libraries: &mut LibraryList,
-    name: HeldText,
-) -> Result<bool, LinkFault> {
+    library: LinkLibrary,
+) -> Result<bool, LinkFault>
+    ensures versions { room.new.versions ≡ room.old.versions }
+    ensures marks { room.new.marks ≡ room.old.marks }
+    ensures strings { IfOk result (λ _. room.new.strings ≡ room.old.strings) }
+    ensures asks { (file : List ℕ) (known : LibraryVersions) →
+        HoldsLibrary file room.old.strings.bytes tables room.old.versions known →
+        HoldsSectionHeaders file view.now.loaded view.now.store.now →
+        AsksFor (library_symbols file known (first_typed (file_sections file) SHT_DYNSYM))
+        keys.now.keys room.old.marks result }
+{
+    if !library.as_needed {
+        return Ok(true);
+    }
     let strings = &mut room.strings;
     let need = library_need(view, tables, &room.versions, strings, keys, &room.marks)?;
     if need.by_objects {
         return Ok(true);
     }
-    Ok(need.by_libraries && !libraries.is_needed(name))
+    Ok(need.by_libraries && !libraries.is_needed(library.name))
 }

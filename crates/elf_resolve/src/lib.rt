@@ -25,6 +25,7 @@ mod libraries;
 mod library;
 mod library_needs;
 mod library_symbols;
+mod library_versions;
 mod lines;
 mod link_faults;
 mod link_files;
@@ -57,6 +58,7 @@ mod symbols;
 mod table;
 mod version_names;
 mod version_records;
+mod version_room;
 mod whole_archives;
 
 pub use budgeted_files::BudgetedFiles;

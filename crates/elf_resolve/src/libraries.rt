@@ -1,5 +1,6 @@
 //! The shared libraries of a link.
-ghost use Rattle.std.specs.Prelude.{◌≡◌, [], IfOk, length};
+ghost use Rattle.std.specs.Prelude.{◌≡◌, [], IfErr, IfOk, None, length};
+ghost use Rattle.elf_resolve.specs.Taken.{IsLinkFault};
 
 use crate::link_faults::{LinkFault, refused};
 use crate::string_buffer::{HeldText, part_of};
@@ -79,7 +80,9 @@ impl LibraryList {
     ///
     /// # Errors
     /// `TooManyRows` at a file offset if there is no room for it.
-    pub(crate) fn keep(&mut self, name: &[u8], at: u64) -> Result<HeldText, LinkFault> {
+    pub(crate) fn keep(&mut self, name: &[u8], at: u64) -> Result<HeldText, LinkFault>
+        ensures limit { IfErr result (IsLinkFault None) }
+    {
         let start = self.texts.len();
         let size = name.len();
         if size > self.room.saturating_sub(start) {
@@ -93,7 +96,9 @@ impl LibraryList {
     ///
     /// # Errors
     /// `TooManyRows` at 0 if there is no room for it.
-    pub(crate) fn add(&mut self, library: LinkLibrary) -> Result<usize, LinkFault> {
+    pub(crate) fn add(&mut self, library: LinkLibrary) -> Result<usize, LinkFault>
+        ensures limit { IfErr result (IsLinkFault None) }
+    {
         if self.libraries.len() >= self.most {
             return refused(0, LinkCause::TooManyRows);
         }
@@ -106,7 +111,9 @@ impl LibraryList {
     ///
     /// # Errors
     /// `TooManyRows` there if there is no room for it.
-    pub(crate) fn add_needed(&mut self, name: &[u8], at: u64) -> Result<(), LinkFault> {
+    pub(crate) fn add_needed(&mut self, name: &[u8], at: u64) -> Result<(), LinkFault>
+        ensures limit { IfErr result (IsLinkFault None) }
+    {
         if self.needed.len() >= self.most {
             return refused(at, LinkCause::TooManyRows);
         }

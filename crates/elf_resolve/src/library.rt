@@ -1,19 +1,27 @@
 //! A shared library of a link: its symbols with their versions, and what its dynamic entries say.
-ghost use Rattle.std.specs.Prelude.{◌≡◌, ◌+◌, ◌*◌, ◌<◌, ◌^◌, List, ℕ};
+ghost use Rattle.std.specs.Prelude.{◌≡◌, ◌+◌, ◌*◌, ◌<◌, ◌^◌, ◌/◌, ◌==◌, ◌&&◌, IfErr, IfOk, List, ℕ, None, Ok, Option, Some, is_none, is_some};
+ghost use Rattle.elf_model.specs.Prelude.{entry_at, section_at};
+ghost use Rattle.elf_source.specs.Prelude.{KeepsSource};
+ghost use Rattle.elf_resolve.specs.LibraryEntries.{FindsDynamicEntry, FindsOwnName, IsDynamicEntry, own_name, own_step};
+ghost use Rattle.elf_resolve.specs.LibraryFiles.{AreBytesOf, HoldsDynamic, ReadsDynamic, ReadsIndexes, ReadsLibrary, ReadsNamedRows, header_of_type};
 ghost use Rattle.elf_resolve.specs.LibraryKeys.{version_index_at};
 ghost use Rattle.elf_resolve.specs.LibraryTables.{FindsVersionIndex, HoldsIndexes, range_of_symbols};
+ghost use Rattle.elf_resolve.specs.ObjectSymbols.{HoldsSome};
+ghost use Rattle.elf_resolve.specs.StringBuffers.{KeptTexts};
+ghost use Rattle.elf_resolve.specs.Taken.{IsLinkFault};
+ghost use Rattle.elf_table.specs.Load.{HoldsSectionHeaders};
 
 use crate::libraries::LibraryList;
+use crate::library_versions::read_version_names;
 use crate::link_faults::{LinkFault, file_refused};
-use crate::object::{SymbolRows, read_first_symbols, read_names};
+use crate::object::{SymbolRows, read_first_symbols, read_names, read_rows};
 use crate::string_buffer::{HeldText, StringBuffer, part_of};
-use crate::version_names::VersionNames;
-use crate::version_records::VersionSection;
-use elf_record::gnu_numbers::{SHT_GNU_VERDEF, SHT_GNU_VERNEED, SHT_GNU_VERSYM};
+use crate::version_room::VersionNames;
+use elf_record::gnu_numbers::SHT_GNU_VERSYM;
 use elf_record::numbers::{DT_NEEDED, DT_NULL, DT_SONAME, SHT_DYNAMIC, SHT_DYNSYM};
 use elf_record::{Cause, u16_at, u64_at};
 use elf_source::{Counted, Source};
-use elf_table::SectionView;
+use elf_table::{SectionView, Table};
 
 /// The size of a dynamic entry in bytes.
 const DYNAMIC_BYTES: usize = 16;
@@ -68,25 +76,58 @@ pub(crate) fn read_library<S: Source>(
     versions: &mut VersionNames,
     row: u32,
 ) -> Result<LibraryTables, LinkFault>
+    ensures keeps { KeepsSource src.old.seen src.new.seen }
     ensures most { src.new.most ≡ src.old.most }
+    ensures reads { (file : List ℕ) → src.old.seen.file ≡ Some file →
+        HoldsSectionHeaders file view.now.loaded view.now.store.now →
+        ReadsLibrary file strings.new.bytes row versions.new result }
 {
     strings.forget_after(0);
     versions.clear();
     let symbols = read_first_symbols(src, view, SHT_DYNSYM, strings)?;
     let dynamic = read_dynamic(src, view, strings)?;
-    let rows = read_version_rows(src, view, strings)?;
-    if rows.is_some() && symbols.is_some() {
-        read_version_names(src, view, strings, versions)?;
-    }
-    Ok(LibraryTables {
+    let indexes = read_indexes(src, view, strings)?;
+    let tables = LibraryTables {
         row,
         symbols,
-        versions: rows,
+        versions: indexes,
         dynamic,
-    })
+    };
+    if !tables.has_versions() {
+        return Ok(tables);
+    }
+    read_version_names(src, view, strings, versions)?;
+    Ok(tables)
 }
 
-/// Reads the first section of dynamic entries and its strings.
+/// Reads the rows of a section, and the string table that it links to.
+///
+/// # Errors
+/// Those of the string table; there is no room for them.
+pub(crate) fn read_named_rows<S: Source>(
+    src: &mut Counted<S>,
+    view: &SectionView<'_>,
+    section: u16,
+    table: Table,
+    strings: &mut StringBuffer,
+) -> Result<(HeldText, HeldText), LinkFault>
+    requires { section < view.now.store.now.loaded }
+    ensures keeps { KeepsSource src.old.seen src.new.seen }
+    ensures most { src.new.most ≡ src.old.most }
+    ensures stays { KeptTexts strings.old strings.new }
+    ensures reads { (file : List ℕ) → src.old.seen.file ≡ Some file →
+        HoldsSectionHeaders file view.now.loaded view.now.store.now →
+        AreBytesOf file (section_at file section) table →
+        ReadsNamedRows file strings.new.bytes (section_at file section) result }
+    ensures fits { IfOk result (λ _. table.at + table.count * table.entry < 2 ^ 64) }
+{
+    let linked = view.strings(section)?;
+    let rows = read_rows(src, table, strings)?;
+    let names = read_names(src, linked, table.at(), strings)?;
+    Ok((rows, names))
+}
+
+/// Reads the first section of dynamic entries and its strings, if it has some.
 ///
 /// # Errors
 /// Those of the tables; there is no room for them.
@@ -95,23 +136,24 @@ fn read_dynamic<S: Source>(
     view: &SectionView<'_>,
     strings: &mut StringBuffer,
 ) -> Result<Option<DynamicRows>, LinkFault>
+    ensures keeps { KeepsSource src.old.seen src.new.seen }
     ensures most { src.new.most ≡ src.old.most }
+    ensures stays { KeptTexts strings.old strings.new }
+    ensures reads { (file : List ℕ) → src.old.seen.file ≡ Some file →
+        HoldsSectionHeaders file view.now.loaded view.now.store.now →
+        ReadsDynamic file strings.new.bytes (header_of_type file SHT_DYNAMIC) result }
 {
     let Some(section) = view.first(SHT_DYNAMIC) else {
         return Ok(None);
     };
-    let size = view.section(section).sh_size;
     let table = view.table(section, DYNAMIC_BYTES as u64)?;
-    if size == 0 {
+    if table.is_empty() {
         return Ok(None);
     }
-    let at = table.at();
-    let names = view.strings(section)?;
-    let rows = strings.read(src, at, size, at)?;
-    let names = read_names(src, names, at, strings)?;
+    let (rows, names) = read_named_rows(src, view, section, table, strings)?;
     Ok(Some(DynamicRows {
         rows,
-        at,
+        at: table.at(),
         strings: names,
     }))
 }
@@ -120,79 +162,39 @@ fn read_dynamic<S: Source>(
 ///
 /// # Errors
 /// Those of the table; there is no room for it.
-fn read_version_rows<S: Source>(
+fn read_indexes<S: Source>(
     src: &mut Counted<S>,
     view: &SectionView<'_>,
     strings: &mut StringBuffer,
 ) -> Result<Option<VersionRows>, LinkFault>
+    ensures keeps { KeepsSource src.old.seen src.new.seen }
     ensures most { src.new.most ≡ src.old.most }
+    ensures stays { KeptTexts strings.old strings.new }
+    ensures reads { (file : List ℕ) → src.old.seen.file ≡ Some file →
+        HoldsSectionHeaders file view.now.loaded view.now.store.now →
+        ReadsIndexes file strings.new.bytes (header_of_type file SHT_GNU_VERSYM) result }
 {
     let Some(section) = view.first(SHT_GNU_VERSYM) else {
         return Ok(None);
     };
     let header = view.place(section);
-    let size = view.section(section).sh_size;
     let table = view.table(section, INDEX_BYTES as u64)?;
-    let at = table.at();
-    let rows = strings.read(src, at, size, at)?;
-    Ok(Some(VersionRows { rows, at, header }))
-}
-
-/// Reads the names of the versions that a library defines and of those that it needs.
-///
-/// # Errors
-/// Those of the sections; there is no room for them.
-fn read_version_names<S: Source>(
-    src: &mut Counted<S>,
-    view: &SectionView<'_>,
-    strings: &mut StringBuffer,
-    versions: &mut VersionNames,
-) -> Result<(), LinkFault>
-    ensures most { src.new.most ≡ src.old.most }
-{
-    if let Some(table) = read_records(src, view, SHT_GNU_VERDEF, strings)? {
-        versions.read_definitions(strings, table)?;
-    }
-    if let Some(table) = read_records(src, view, SHT_GNU_VERNEED, strings)? {
-        versions.read_needs(strings, table)?;
-    }
-    Ok(())
-}
-
-/// Reads the first section of version records of a type, if it has bytes.
-///
-/// # Errors
-/// Those of the section and its strings; there is no room for them.
-fn read_records<S: Source>(
-    src: &mut Counted<S>,
-    view: &SectionView<'_>,
-    kind: u32,
-    strings: &mut StringBuffer,
-) -> Result<Option<VersionSection>, LinkFault>
-    ensures most { src.new.most ≡ src.old.most }
-{
-    let Some(section) = view.first(kind) else {
-        return Ok(None);
-    };
-    let header = view.place(section);
-    let found = view.section(section);
-    if found.sh_size == 0 {
-        return Ok(None);
-    }
-    let table = view.bytes(found.sh_offset, found.sh_size, header)?;
-    let at = table.at();
-    let names = view.strings(section)?;
-    let records = strings.read(src, at, found.sh_size, at)?;
-    let names = read_names(src, names, at, strings)?;
-    Ok(Some(VersionSection {
-        records,
-        strings: names,
-        at,
+    let rows = read_rows(src, table, strings)?;
+    Ok(Some(VersionRows {
+        rows,
+        at: table.at(),
         header,
     }))
 }
 
 impl LibraryTables {
+    /// Returns `true` if its symbols have versions.
+    fn has_versions(&self) -> bool
+        ensures { result ≡ (is_some self.now.versions && is_some self.now.symbols) }
+    {
+        self.versions.is_some() && self.symbols.is_some()
+    }
+
     /// Returns the index of the first symbol that is not local, and that after the last.
     pub(crate) fn symbol_range(&self) -> (u64, u64)
         ensures { result ≡ range_of_symbols self.now.symbols }
@@ -204,29 +206,41 @@ impl LibraryTables {
     }
 }
 
+/// A dynamic entry (gABI 5, Dynamic Section).
+#[derive(Clone, Copy)]
+struct DynamicEntry {
+    /// Its tag.
+    tag: u64,
+    /// Its value.
+    value: u64,
+    /// Its file offset.
+    at: u64,
+}
+
 impl DynamicRows {
-    /// Returns the tag and the value of an entry, if it is not past the end.
-    fn entry(&self, strings: &StringBuffer, index: usize) -> Option<(u64, u64)> {
+    /// Returns the entry of an index, if there is one that does not mark the end.
+    fn entry(&self, strings: &StringBuffer, index: usize) -> Option<DynamicEntry>
+        ensures { (file : List ℕ) (at : ℕ) → HoldsDynamic file strings.now.bytes at self.now →
+            FindsDynamicEntry file at index result }
+    {
         let start = index.saturating_mul(DYNAMIC_BYTES);
         let row = part_of(strings.bytes(self.rows), start, DYNAMIC_BYTES);
         if row.len() < DYNAMIC_BYTES {
             return None;
         }
-        let (tag, value) = (u64_at(row, 0), u64_at(row, 8));
+        let tag = u64_at(row, 0);
         if tag == DT_NULL {
             return None;
         }
-        Some((tag, value))
-    }
-
-    /// Returns the file offset of an entry.
-    fn place(&self, index: usize) -> u64 {
-        let start = index.saturating_mul(DYNAMIC_BYTES);
-        self.at.saturating_add(start as u64)
+        let value = u64_at(row, 8);
+        let at = self.at.saturating_add(start as u64);
+        Some(DynamicEntry { tag, value, at })
     }
 
     /// Returns how many entries there can be.
-    fn count(&self) -> usize {
+    fn count(&self) -> usize
+        ensures { result ≡ self.now.rows.size / 16 }
+    {
         self.rows.size / DYNAMIC_BYTES
     }
 
@@ -234,43 +248,97 @@ impl DynamicRows {
     ///
     /// # Errors
     /// Those of a name, at its entry.
-    pub(crate) fn soname(&self, strings: &StringBuffer) -> Result<Option<HeldText>, LinkFault> {
-        let mut found = None;
+    pub(crate) fn soname(&self, strings: &StringBuffer) -> Result<Option<HeldText>, LinkFault>
+        ensures { (file : List ℕ) (at : ℕ) → HoldsDynamic file strings.now.bytes at self.now →
+            FindsOwnName (own_name file at) strings.now.bytes result }
+    {
+        let mut own = None;
         for index in 0..self.count() {
-            let Some((tag, value)) = self.entry(strings, index) else {
-                break;
+            let Some(entry) = self.entry(strings, index) else {
+                return Ok(own);
             };
-            if tag == DT_NEEDED || tag == DT_SONAME && found.is_none() {
-                let name = strings.name(self.strings, value, self.place(index))?;
-                if tag == DT_SONAME {
-                    found = Some(name);
-                }
-            }
+            own = self.own_after(strings, entry, own)?;
         }
-        Ok(found)
+        Ok(own)
+    }
+
+    /// Returns the library's own name after an entry: the first that an entry gives.
+    ///
+    /// # Errors
+    /// Those of a name, at its entry.
+    fn own_after(
+        &self,
+        strings: &StringBuffer,
+        entry: DynamicEntry,
+        own: Option<HeldText>,
+    ) -> Result<Option<HeldText>, LinkFault>
+        ensures { (file : List ℕ) (at index : ℕ) (before : Option (List ℕ)) →
+            HoldsDynamic file strings.now.bytes at self.now → IsDynamicEntry file at index entry →
+            HoldsSome strings.now.bytes own before →
+            FindsOwnName (own_step file at (entry_at file at DYNAMIC_BYTES index) before)
+            strings.now.bytes result }
+    {
+        if gives_own(entry, own) {
+            let name = strings.name(self.strings, entry.value, entry.at)?;
+            return Ok(Some(name));
+        }
+        if entry.tag != DT_NEEDED {
+            return Ok(own);
+        }
+        strings.name(self.strings, entry.value, entry.at)?;
+        Ok(own)
     }
 
     /// Adds the names that the library needs, which is the last of a list.
     ///
     /// # Errors
-    /// There is no room for them.
+    /// There is no room for them; those of the names.
     pub(crate) fn add_needed(
         &self,
         strings: &StringBuffer,
         libraries: &mut LibraryList,
-    ) -> Result<(), LinkFault> {
+    ) -> Result<(), LinkFault>
+        ensures { (file : List ℕ) (at : ℕ) (own : Option (List ℕ)) →
+            HoldsDynamic file strings.now.bytes at self.now → own_name file at ≡ Ok own →
+            IfErr result (IsLinkFault None) }
+    {
         for index in 0..self.count() {
-            let Some((tag, value)) = self.entry(strings, index) else {
-                break;
+            let Some(entry) = self.entry(strings, index) else {
+                return Ok(());
             };
-            if tag == DT_NEEDED {
-                let at = self.place(index);
-                let name = strings.name(self.strings, value, at)?;
-                libraries.add_needed(strings.bytes(name), at)?;
-            }
+            self.add_name(strings, entry, libraries)?;
         }
         Ok(())
     }
+
+    /// Adds the name of an entry, if it is that of a library that is needed.
+    ///
+    /// # Errors
+    /// There is no room for it; those of the name.
+    fn add_name(
+        &self,
+        strings: &StringBuffer,
+        entry: DynamicEntry,
+        libraries: &mut LibraryList,
+    ) -> Result<(), LinkFault>
+        ensures { (file : List ℕ) (at index : ℕ) (before after : Option (List ℕ)) →
+            HoldsDynamic file strings.now.bytes at self.now → IsDynamicEntry file at index entry →
+            own_step file at (entry_at file at DYNAMIC_BYTES index) before ≡ Ok after →
+            IfErr result (IsLinkFault None) }
+    {
+        if entry.tag != DT_NEEDED {
+            return Ok(());
+        }
+        let name = strings.name(self.strings, entry.value, entry.at)?;
+        libraries.add_needed(strings.bytes(name), entry.at)
+    }
+}
+
+/// Returns `true` if an entry gives the library's own name, and none before it did.
+fn gives_own(entry: DynamicEntry, own: Option<HeldText>) -> bool
+    ensures { result ≡ (entry.tag == DT_SONAME && is_none own) }
+{
+    entry.tag == DT_SONAME && own.is_none()
 }
 
 impl VersionRows {

@@ -1,7 +1,14 @@
 //! Whether the definitions of a shared library make it needed.
-ghost use Rattle.std.specs.Prelude.{◌≡◌};
-ghost use Rattle.elf_resolve.specs.LibraryNeeds.{default_need, is_defined_name, joined_need, name_need};
+ghost use Rattle.std.specs.Prelude.{◌≡◌, IfOk, List, ℕ, Ok, Result};
+ghost use Rattle.elf_model.specs.HeaderTables.{file_sections, first_typed};
+ghost use Rattle.elf_model.specs.LinkKeys.{LinkSymbol};
+ghost use Rattle.elf_model.specs.Numbers.{SHT_DYNSYM};
+ghost use Rattle.elf_model.specs.declared.link_states.LinkRefusal.{LinkRefusal as Refusal};
+ghost use Rattle.elf_resolve.specs.LibraryKeys.{LibraryVersions, library_symbols};
+ghost use Rattle.elf_resolve.specs.LibraryNeeds.{FindsNeed, default_need, is_defined_name, joined_need, name_need, need_of_symbol, needs_joined};
 ghost use Rattle.elf_resolve.specs.LibraryNeeds.{takes_definition as takes_it};
+ghost use Rattle.elf_resolve.specs.LibraryTables.{FindsLibrarySymbol, HoldsLibrary, HoldsLibrarySymbol};
+ghost use Rattle.elf_table.specs.Load.{HoldsSectionHeaders};
 
 use crate::key_marks::KeyMarks;
 use crate::library::LibraryTables;
@@ -9,7 +16,7 @@ use crate::library_symbols::{LibrarySymbol, library_symbol};
 use crate::link_faults::LinkFault;
 use crate::string_buffer::StringBuffer;
 use crate::table::KeyTable;
-use crate::version_names::VersionNames;
+use crate::version_room::VersionNames;
 use elf_model::{KeyEntry, KeyState, SharedDefinition, SharedKind, SymbolRole};
 use elf_table::SectionView;
 
@@ -43,7 +50,7 @@ impl LibraryNeed {
 /// Returns whether definitions of a library make it needed.
 ///
 /// # Errors
-/// The first fault of a symbol.
+/// The first fault of a symbol; there is no room for a name.
 pub(crate) fn library_need(
     view: &SectionView<'_>,
     tables: LibraryTables,
@@ -51,26 +58,54 @@ pub(crate) fn library_need(
     strings: &mut StringBuffer,
     keys: &KeyTable<'_>,
     marks: &KeyMarks,
-) -> Result<LibraryNeed, LinkFault> {
+) -> Result<LibraryNeed, LinkFault>
+    ensures same { IfOk result (λ _. strings.new ≡ strings.old) }
+    ensures finds { (file : List ℕ) (known : LibraryVersions) →
+        HoldsLibrary file strings.old.bytes tables versions.now known →
+        HoldsSectionHeaders file view.now.loaded view.now.store.now →
+        FindsNeed (library_symbols file known (first_typed (file_sections file) SHT_DYNSYM))
+        keys.now.keys marks.now result }
+{
     let mut need = NO_NEED;
     let used = strings.used();
     let (first, count) = tables.symbol_range();
     for index in first..count {
-        if let Some(symbol) = library_symbol(view, tables, versions, strings, index)? {
-            need = need.joined(symbol_need(&symbol, strings, keys, marks));
-        }
+        let symbol = library_symbol(view, tables, versions, strings, index)?;
+        need = need_after(need, symbol, strings, keys, marks);
         strings.forget_after(used);
     }
     Ok(need)
 }
 
-/// Returns whether a symbol makes its library needed, which only a definition does.
+/// Returns who needs a library, by other symbols and by this one, if there is one.
+fn need_after(
+    need: LibraryNeed,
+    symbol: Option<LibrarySymbol>,
+    strings: &StringBuffer,
+    keys: &KeyTable<'_>,
+    marks: &KeyMarks,
+) -> LibraryNeed
+    ensures { (known : Result (List LinkSymbol) Refusal) (at : ℕ) →
+        FindsLibrarySymbol known strings.now.bytes at (Ok symbol) →
+        (symbols : List LinkSymbol) × (known ≡ Ok symbols) ×
+        (result ≡ needs_joined keys.now.keys marks.now need symbols) }
+{
+    match symbol {
+        Some(symbol) => need.joined(symbol_need(&symbol, strings, keys, marks)),
+        None => need,
+    }
+}
+
+/// Returns who needs a library by a symbol: no one, if that is no definition.
 fn symbol_need(
     symbol: &LibrarySymbol,
     strings: &StringBuffer,
     keys: &KeyTable<'_>,
     marks: &KeyMarks,
-) -> LibraryNeed {
+) -> LibraryNeed
+    ensures { (is : LinkSymbol) → HoldsLibrarySymbol strings.now.bytes symbol.now is →
+        result ≡ need_of_symbol keys.now.keys marks.now is }
+{
     let SymbolRole::Shared(definition) = symbol.role else {
         return NO_NEED;
     };

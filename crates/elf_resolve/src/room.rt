@@ -8,7 +8,7 @@ use crate::link_faults::{LinkFault, refused};
 use crate::member_names::NamesOfMembers;
 use crate::section_marks::SectionMarks;
 use crate::string_buffer::StringBuffer;
-use crate::version_names::VersionNames;
+use crate::version_room::VersionNames;
 use elf_model::LinkCause;
 use elf_record::Ehdr;
 use std::alloc::{AllocError, Global};

@@ -5,7 +5,7 @@ ghost use Rattle.elf_model.specs.declared.versions.VersionKind.TheVariants.{Defi
 ghost use Rattle.elf_resolve.specs.LibraryVersions.{NumberedName, version_names};
 ghost use Rattle.elf_resolve.specs.StringBuffers.{HoldsText};
 ghost use Rattle.elf_resolve.specs.VersionTexts.{text_of_number};
-ghost use Rattle.elf_resolve.specs.VersionWalks.{FindsNumber, HasRoomForNames, HoldsVersionNames, HoldsNoNames, HoldsVersions, IsRecordPlace, ReadsNames, ReadsVersionRecord, ReadsVersions, after_file, state_at};
+ghost use Rattle.elf_resolve.specs.VersionWalks.{FindsNumber, HoldsVersionNames, HoldsNoNames, HoldsVersions, IsRecordPlace, ReadsNames, ReadsVersionRecord, ReadsVersions, after_file, state_at};
 
 use crate::link_faults::{LinkFault, file_refused};
 use crate::string_buffer::{HeldText, StringBuffer};
@@ -13,11 +13,9 @@ use crate::version_records::{
     RecordPlace, VersionSection, bytes_at, first_record, half, long, next_place, past_all,
     place_after, record_at,
 };
+use crate::version_room::{MOST_VERSIONS, VersionNames};
 use elf_record::Cause;
 use std::alloc::{AllocError, Global};
-
-/// One more than the largest index of a version.
-const MOST_VERSIONS: usize = 1024;
 
 /// The bit of a version index that hides a symbol from references without a version.
 pub(crate) const HIDDEN: u16 = 0x8000;
@@ -33,14 +31,6 @@ const AUXILIARY_BYTES: usize = 8;
 
 /// The size of a version need in bytes, and of a version of one.
 const NEED_BYTES: usize = 16;
-
-/// The names of the versions that a library defines and of those that it needs, in memory that is
-/// allocated once.
-#[derive(Drop)]
-pub(crate) struct VersionNames {
-    defined: Vec<Option<HeldText>>,
-    needed: Vec<Option<HeldText>>,
-}
 
 impl VersionNames {
     /// Creates names of no version.
@@ -58,7 +48,7 @@ impl VersionNames {
 
     /// Forgets all names.
     pub(crate) fn clear(&mut self)
-        ensures { HasRoomForNames self.old → HoldsNoNames self.new }
+        ensures { HoldsNoNames self.new }
     {
         forget(&mut self.defined);
         forget(&mut self.needed);
